@@ -129,13 +129,9 @@ impl Asked {
 }
 
 impl Asked {
-    /// How many helpers there are: one on each thread, if there is more than one.
+    /// How many helpers there are: one on each thread. A single one takes no thread of its own.
     pub(crate) fn helpers(&self) -> usize {
-        if self.threads > 1 {
-            self.threads.min(MAX_HELPERS)
-        } else {
-            0
-        }
+        self.threads.clamp(1, MAX_HELPERS)
     }
 
     /// Whether what is sought is more than any row or any event: a count, or that of one processor

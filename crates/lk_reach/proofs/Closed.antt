@@ -25,7 +25,7 @@ use Rattle.lk_reach.specs.Explored.{IsSuch}
 use Rattle.lk_idle.specs.Alike.{AreAlike, GoesOnAlike}
 use Rattle.lk_idle.proofs.Goes.{alike_goes_on}
 use Rattle.lk_reach.specs.Space.{SpaceValue, Keeps}
-use Rattle.lk_reach.proofs.Counts.{counts_are_idle}
+use Rattle.lk_reach.proofs.apart.Counts.{counts_are_idle}
 use Rattle.lk_reach.proofs.Kept.{keeps_one}
 use Rattle.lk_word.specs.declared.spin_word.NodeName.{NodeName}
 

@@ -54,7 +54,7 @@ keeps_grown v w g k s has = record {
 }
 
 -- the parts of a machine are the machine
-same_machine : (s t : Machine) → s.setup ≡ t.setup → s.locks ≡ t.locks → s.cpus ≡ t.cpus
+pub same_machine : (s t : Machine) → s.setup ≡ t.setup → s.locks ≡ t.locks → s.cpus ≡ t.cpus
     → s.hash ≡ t.hash → s.counts ≡ t.counts → s ≡ t
 same_machine s t setup locks cpus hash counts =
     (λ i. record { setup = setup i; locks = locks i; cpus = cpus i; hash = hash i; counts = counts i })

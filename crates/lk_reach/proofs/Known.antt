@@ -17,7 +17,7 @@ use Rattle.lk_reach.specs.Folded.{StandsFor}
 use Rattle.lk_reach.specs.Reach.{bare, after, IsMove, AreMoves, IsBegun, IsReached, start_of, state_after}
 use Rattle.lk_reach.specs.Space.{SpaceValue, Keeps}
 use Rattle.lk_reach.proofs.Closed.{Laws, reached_start, reached_then, same_state}
-use Rattle.lk_reach.proofs.Counts.{counts_are_idle}
+use Rattle.lk_reach.proofs.apart.Counts.{counts_are_idle}
 use Rattle.lk_reach.proofs.Folded.{stands_self, stands_then, steps}
 use Rattle.lk_reach.proofs.Kept.{one_value}
 

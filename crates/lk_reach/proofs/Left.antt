@@ -25,7 +25,7 @@ use Rattle.lk_reach.specs.Explored.{KeepsLike}
 use Rattle.lk_reach.specs.Explored.{Writes}
 use Rattle.lk_reach.proofs.Kept.{front_at, front_self, front_then, keeps_grown, keeps_one, one_value}
 use Rattle.lk_reach.proofs.Columns.{columns_push, leads_now}
-use Rattle.lk_reach.proofs.Grown.{continues, good_grown, left_grown, origin_cases, origin_grown, telling_grown, tried_grown}
+use Rattle.lk_reach.proofs.apart.Grown.{continues, good_grown, left_grown, origin_cases, origin_grown, telling_grown, tried_grown}
 use Rattle.lk_reach.proofs.Closed.{Laws, reached_sound, reached_start, reached_such, reached_then}
 
 pub grows_self : (v : SpaceValue) → Grows v v

@@ -1,4 +1,3 @@
-pub mod Counts
 pub mod Likeness
 pub mod Closed
 pub mod Folded
@@ -7,7 +6,6 @@ pub mod Columns
 pub mod Kept
 pub mod Listed
 pub mod Formed
-pub mod Grown
 pub mod Left
 pub mod Ending
 pub mod apart

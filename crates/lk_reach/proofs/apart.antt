@@ -11,3 +11,6 @@ pub mod Helped
 pub mod Copied
 pub mod Orders
 pub mod Alike
+pub mod Remembered
+pub mod Grown
+pub mod Counts

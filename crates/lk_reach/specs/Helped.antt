@@ -14,6 +14,7 @@ use Rattle.lk_reach.specs.declared.plan.Plan.{Plan}
 use Rattle.lk_reach.specs.Explored.{IsGood, IsSuch, KeepsLike, OnlyMoves}
 use Rattle.lk_reach.specs.Reach.{IsBegun, IsReached, after}
 use Rattle.lk_reach.specs.Space.{Grows, IsSameKind, Keeps, KeyKeeps, SpaceValue}
+use Rattle.lk_reach.specs.Steps.{AreMade}
 
 -- The state of this number stands for the machine, to which an act led from the state s of number left. If it is
 -- that one, it differs from the machine in what nobody reads alone.
@@ -39,9 +40,10 @@ pub record IsFound (plan : Plan) (setup : Setup) (v : SpaceValue) (f : Finding) 
 abbrev pub AreFound : Plan → Setup → SpaceValue → List Finding → Type 0
 AreFound plan setup v fs = (i : ℕ) (f : Finding) → slice_get fs i ≡ Some f → IsFound plan setup v f
 
--- a helper with a machine of this setup, which found what is so
+-- a helper with a machine of this setup, which found what is so, and remembers steps that are so
 pub record IsHelper (plan : Plan) (setup : Setup) (v : SpaceValue) (h : Helper) : Type 0 where
   pub such : IsSuch setup h.machine
+  pub made : AreMade setup v h.steps.made.items
   pub found : AreFound plan setup v h.findings.items
 
 abbrev pub AreHelpers : Plan → Setup → SpaceValue → List Helper → Type 0
@@ -51,6 +53,7 @@ AreHelpers plan setup v hs = (i : ℕ) (h : Helper) → slice_get hs i ≡ Some 
 pub record IsFresh (setup : Setup) (h : Helper) : Type 0 where
   pub such : IsSuch setup h.machine
   pub none : h.findings.items ≡ []
+  pub no_steps : h.steps.made.items ≡ []
 
 abbrev pub AreFresh : Setup → List Helper → Type 0
 AreFresh setup hs = (i : ℕ) (h : Helper) → slice_get hs i ≡ Some h → IsFresh setup h
@@ -78,9 +81,16 @@ pub record MayLook (plan : Plan) (v : SpaceValue) (setup : Setup) : Type 0 where
 pub record IsReady (plan : Plan) (v : SpaceValue) (h : Helper) : Type 0 where
   pub may : MayLook plan v h.machine.setup
   pub such : IsSuch h.machine.setup h.machine
+  pub made : AreMade h.machine.setup v h.steps.made.items
 
 abbrev pub AreReady : Plan → SpaceValue → List Helper → Type 0
 AreReady plan v hs = (i : ℕ) (d : Helper) → i < length hs → IsReady plan v (slice_index_or hs i d)
+
+-- a helper made an act, and found nothing so far
+pub record StaysHelper (v : SpaceValue) (old new : Helper) : Type 0 where
+  pub such : IsSuch old.machine.setup new.machine
+  pub made : AreMade old.machine.setup v new.steps.made.items
+  pub findings : new.findings ≡ old.findings
 
 -- a helper became one that has looked
 pub record HasLooked (plan : Plan) (v : SpaceValue) (old new : Helper) : Type 0 where

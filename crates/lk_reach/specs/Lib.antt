@@ -15,3 +15,4 @@ pub mod Deeds
 pub mod Seeking
 pub mod Copies
 pub mod Helped
+pub mod Steps

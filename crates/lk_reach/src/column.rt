@@ -39,6 +39,7 @@ impl Column {
     /// # Errors
     ///
     /// There is not enough memory, or no room for one more number.
+    #[inline]
     pub(crate) fn push(&mut self, then: u32) -> Result<(), Memory>
         ensures { OnOk result (self.new ≡ self.old ++ then ∷ []) }
     {
@@ -52,6 +53,7 @@ impl Column {
     }
 
     /// Where the act led on a state, if it was left.
+    #[inline]
     pub(crate) fn get(&self, state: usize) -> Option<u32>
         ensures some { IfSome result (λ j. slice_get self.now state ≡ Some j) }
         ensures none { IfNone result (slice_get self.now state ≡ None) }

@@ -77,6 +77,16 @@ impl<'a, R: Threads + Sync> Crew<'a, R> {
         machine
     }
 
+    // How many states are tried ahead next: one where a single helper is at work, since nobody waits for it
+    // and it knows all that was met then.
+    fn next_width(&self) -> usize {
+        if self.helpers.list.len() == 1 {
+            1
+        } else {
+            fitting(self.width, self.tried, self.taken)
+        }
+    }
+
     /// Lets the helpers try the acts on this state and the next ones, if they have not done so, and
     /// there are enough.
     pub(crate) fn look_ahead(&mut self, space: &mut Space, plan: &Plan, state: usize)
@@ -91,10 +101,10 @@ impl<'a, R: Threads + Sync> Crew<'a, R> {
         if plan.folds || state < self.ahead {
             return;
         }
-        let width = fitting(self.width, self.tried, self.taken);
+        let width = self.next_width();
         let to = space.len().min(state.saturating_add(width));
         let count = to.saturating_sub(state);
-        if count < LEAST_AHEAD {
+        if count < LEAST_AHEAD.min(width) {
             return;
         }
         let rt = self.helpers.rt;

@@ -23,6 +23,7 @@ pub(crate) struct Fours {
 }
 
 // The number with these halves.
+#[inline]
 fn joined(lower: u16, upper: u16) -> u32
     ensures { result ≡ lower + 65536 * upper }
 {
@@ -61,6 +62,7 @@ fn are_none(four: [u16; 4]) -> bool
 }
 
 // Puts halves at a position.
+#[inline]
 fn put(halves: &mut Vec<[u16; 4]>, at: usize, four: [u16; 4]) -> Result<(), Memory>
     ensures { OnOk result (Puts none halves.old.items halves.new.items at four) }
 {
@@ -77,6 +79,7 @@ impl Fours {
     }
 
     /// The four numbers at a position.
+    #[inline]
     pub(crate) fn get(&self, at: usize) -> [u32; 4]
         ensures { result ≡ four_at self.now at }
     {

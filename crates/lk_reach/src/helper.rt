@@ -2,17 +2,22 @@
 // writes down anything.
 
 ghost use Rattle.std.specs.Prelude.{◌≡◌, ◌<◌, ◌≤◌, IfOk, IfSome, length};
+ghost use Rattle.lk_rows.specs.Machine.{Machine as MachineValue};
 ghost use Rattle.lk_rows.specs.Programs.{IsLawfulSetup};
+ghost use Rattle.lk_idle.specs.Alike.{AreAlike};
 ghost use Rattle.lk_reach.specs.Copies.{tight_setup};
-ghost use Rattle.lk_reach.specs.Explored.{IsSuch};
-ghost use Rattle.lk_reach.specs.Helped.{AreFound, HasLooked, IsFound, IsFresh, IsReady, MayKeep, MayLook};
+ghost use Rattle.lk_reach.specs.Helped.{AreFound, HasLooked, IsFound, IsFresh, IsReady, MayKeep, StaysHelper};
+ghost use Rattle.lk_reach.specs.Space.{IsSameKind, Keeps, KeyKeeps};
+ghost use Rattle.lk_reach.specs.Steps.{IsSpot};
 
 use crate::copies::copy_of;
 use crate::found::{Finding, Then};
 use crate::helpers::Part;
-use crate::making::make;
+use crate::key::Key;
 use crate::plan::Plan;
 use crate::space::Space;
+use crate::spot::{Spot, lead};
+use crate::steps::Steps;
 use lk_abs::Memory;
 use lk_machine::Machine;
 use lk_rows::Setup;
@@ -22,6 +27,9 @@ use std::alloc::Global;
 #[derive(Drop)]
 pub(crate) struct Helper {
     machine: Machine,
+    steps: Steps,
+    /// Whether it seeks states that were met.
+    seeks: bool,
     pub findings: Vec<Finding>,
 }
 
@@ -30,38 +38,6 @@ fn number_of(count: usize) -> Option<u32>
     ensures { IfSome result (λ number. number ≡ count) }
 {
     u32::try_from(count).ok()
-}
-
-// Makes an act on a state. Returns what it led to, if each part of that was met.
-fn find(
-    space: &Space,
-    machine: &mut Machine,
-    plan: &Plan,
-    state: usize,
-    act: usize,
-) -> Option<Finding>
-    requires may { MayLook plan.now space.now machine.old.setup }
-    requires such { IsSuch machine.old.setup machine.old }
-    requires there { state < length space.now.keys }
-    requires act { act < length plan.now.acts.items }
-    ensures found { IfSome result (λ f. IsFound plan.now machine.old.setup space.now f) }
-    ensures such { IsSuch machine.old.setup machine.new }
-{
-    let number = number_of(state)?;
-    let by = number_of(act)?;
-    space.load(state, machine);
-    let event = make(machine, plan.act(act));
-    let key = space.key_seen(machine, state)?;
-    let then = match space.known(&key) {
-        Some(known) => Then::Known(known),
-        None => Then::New(key),
-    };
-    Some(Finding {
-        state: number,
-        act: by,
-        event,
-        then,
-    })
 }
 
 // Keeps what was found, if there is room.
@@ -81,7 +57,7 @@ impl Helper {
     /// # Errors
     ///
     /// There is not enough memory.
-    pub(crate) fn new(alloc: Global, setup: &Setup) -> Result<Helper, Memory>
+    pub(crate) fn new(alloc: Global, setup: &Setup, seeks: bool) -> Result<Helper, Memory>
         requires { IsLawfulSetup setup.now }
         ensures { IfOk result (IsFresh (tight_setup setup.now)) }
     {
@@ -89,7 +65,43 @@ impl Helper {
         let machine = Machine::new(alloc, copy)?;
         Ok(Helper {
             machine,
+            steps: Steps::none(alloc),
+            seeks,
             findings: Vec::new(alloc),
+        })
+    }
+
+    // The number of a state with this key, or of one of the same form, if it is sought and was met.
+    fn seek(&self, space: &Space, key: &Key) -> Option<u32>
+        ensures there { IfSome result (λ k. k < length space.now.keys) }
+        ensures alike { IfSome result (λ k. (s t : MachineValue) → Keeps space.now k s
+            → KeyKeeps space.now.parts space.now.shareds key.now t → IsSameKind s t → AreAlike s t) }
+    {
+        if self.seeks { space.known(key) } else { None }
+    }
+
+    // Tries an act on a state. Returns what it led to, if each part of that was met.
+    fn find(&mut self, space: &Space, plan: &Plan, spot: &Spot, act: usize) -> Option<Finding>
+        requires ready { IsReady plan.now space.now self.old }
+        requires spot { IsSpot self.old.machine.setup space.now spot.now }
+        requires act { act < length plan.now.acts.items }
+        ensures found { IfSome result
+            (λ f. IsFound plan.now self.old.machine.setup space.now f) }
+        ensures kept { StaysHelper space.now self.old self.new }
+    {
+        let state = number_of(spot.state)?;
+        let by = number_of(act)?;
+        let doing = plan.act(act);
+        let led = lead(space, &mut self.machine, &mut self.steps, spot, doing)?;
+        let then = match self.seek(space, &led.key) {
+            Some(known) => Then::Known(known),
+            None => Then::New(led.key),
+        };
+        Some(Finding {
+            state,
+            act: by,
+            event: led.event,
+            then,
         })
     }
 
@@ -100,8 +112,12 @@ impl Helper {
         requires found { AreFound plan.now self.old.machine.setup space.now self.old.findings.items }
         ensures { HasLooked plan.now space.now self.old self.new }
     {
+        let spot = Spot {
+            state,
+            key: space.key_at(state),
+        };
         for act in 0..plan.acts().len() {
-            let found = find(space, &mut self.machine, plan, state, act);
+            let found = self.find(space, plan, &spot, act);
             keep(&mut self.findings, found);
         }
     }

@@ -72,7 +72,7 @@ impl<'a, R: Threads + Sync> Helpers<'a, R> {
     {
         let mut list = Vec::new(alloc);
         for _made in 0..count {
-            add(&mut list, Helper::new(alloc, setup)?)?;
+            add(&mut list, Helper::new(alloc, setup, count > 1)?)?;
         }
         Ok(Helpers { rt, list })
     }
@@ -102,6 +102,10 @@ pub(crate) fn look_at<R: Threads + Sync>(
 {
     let count = helpers.len();
     if count == 0 {
+        return;
+    }
+    if count == 1 {
+        helpers[0].look(space, plan, part);
         return;
     }
     let each = part.len().div_ceil(count);

@@ -43,6 +43,7 @@ impl Key {
     }
 
     /// A number for a table of keys.
+    #[inline]
     pub(crate) fn number(&self) -> u64 {
         let mut weight = WEIGHT;
         let mut number = u64::from(self.shared).wrapping_mul(weight);

@@ -43,6 +43,7 @@ impl Keys {
     }
 
     /// How many keys there are.
+    #[inline]
     pub(crate) fn len(&self) -> usize
         ensures { result ≡ length self.now }
     {
@@ -50,6 +51,7 @@ impl Keys {
     }
 
     /// The key of the state with this number.
+    #[inline]
     pub(crate) fn at(&self, number: usize) -> Key
         requires { number < length self.now }
         ensures { slice_get self.now number ≡ Some result }
@@ -65,6 +67,7 @@ impl Keys {
     }
 
     /// The key of the state with this number, if there is one.
+    #[inline]
     pub(crate) fn get(&self, number: usize) -> Option<Key>
         ensures { IfSome result (λ key. slice_get self.now number ≡ Some key) }
     {

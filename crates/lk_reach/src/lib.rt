@@ -42,7 +42,10 @@ mod seeking;
 mod slots;
 mod sorting;
 mod space;
+mod spot;
+mod steps;
 mod table;
+mod touch;
 mod ways;
 
 pub use book::Seen;

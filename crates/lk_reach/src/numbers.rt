@@ -30,6 +30,7 @@ impl Numbers {
     }
 
     /// The number at a position.
+    #[inline]
     pub(crate) fn get(&self, at: usize) -> u32
         ensures { result ≡ number_at self.now at }
     {
@@ -46,6 +47,7 @@ impl Numbers {
     /// # Errors
     ///
     /// There is not enough memory.
+    #[inline]
     pub(crate) fn put(&mut self, at: usize, number: u32) -> Result<(), Memory>
         ensures { OnOk result (PutsNumber self.old self.new at number) }
     {

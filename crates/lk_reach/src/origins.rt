@@ -40,6 +40,7 @@ impl Origins {
     }
 
     /// How many origins there are.
+    #[inline]
     pub(crate) fn len(&self) -> usize
         ensures { result ≡ length self.now }
     {
@@ -47,6 +48,7 @@ impl Origins {
     }
 
     /// How the state of this number was met.
+    #[inline]
     pub(crate) fn at(&self, state: usize) -> Origin
         requires { state < length self.now }
         ensures { slice_get self.now state ≡ Some result }

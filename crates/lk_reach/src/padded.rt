@@ -6,6 +6,7 @@ ghost use Rattle.lk_reach.specs.Numbers.{Pads, Puts};
 use lk_abs::Memory;
 
 /// The item at a position.
+#[inline]
 pub(crate) fn item_at<T: Copy>(items: &Vec<T>, at: usize, zero: T) -> T
     ensures { result ≡ slice_index_or items.now.items at zero }
 {
@@ -16,6 +17,7 @@ pub(crate) fn item_at<T: Copy>(items: &Vec<T>, at: usize, zero: T) -> T
 }
 
 // Adds an item.
+#[inline]
 fn push_item<T: Copy + Drop>(items: &mut Vec<T>, item: T) -> Result<(), Memory>
     ensures { OnOk result (items.new.items ≡ items.old.items ++ item ∷ []) }
 {
@@ -37,6 +39,7 @@ fn pad<T: Copy + Drop>(items: &mut Vec<T>, at: usize, zero: T) -> Result<(), Mem
 /// # Errors
 ///
 /// There is not enough memory.
+#[inline]
 pub(crate) fn put_item<T: Copy + Drop>(
     items: &mut Vec<T>,
     at: usize,

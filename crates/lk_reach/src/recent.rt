@@ -48,6 +48,7 @@ impl Recent {
     }
 
     /// Whether all are found.
+    #[inline]
     pub(crate) fn has_all(&self) -> bool {
         self.slots.len() == SLOTS && self.count <= SLOTS / 2
     }
@@ -58,17 +59,20 @@ impl Recent {
     }
 
     /// The slot from which a state with this hash is sought.
+    #[inline]
     pub(crate) fn home(&self, hash: u64) -> usize {
         (hash >> 48) as usize
     }
 
     /// The slot behind this one.
+    #[inline]
     pub(crate) fn behind(&self, at: usize) -> usize {
         let next = at.wrapping_add(1);
         if next < self.slots.len() { next } else { 0 }
     }
 
     /// The number in a slot, or `None` if it is empty.
+    #[inline]
     pub(crate) fn number(&self, at: usize) -> Option<u32> {
         let slot = *self.slots.get(at)?;
         slot.checked_sub(1)

@@ -30,6 +30,7 @@ fn mask_for(count: usize) -> u32 {
 }
 
 // The lower half of a hash.
+#[inline]
 fn lower(hash: u64) -> u32 {
     (hash & 0xffff_ffff) as u32
 }
@@ -85,24 +86,28 @@ impl Slots {
 
     /// The slot from which a thing with this hash is sought: the upper half of the hash says where
     /// it lies between the first slot and the last.
+    #[inline]
     pub(crate) fn home(&self, hash: u64) -> usize {
         let count = self.slots.len() as u64;
         ((hash >> 32).wrapping_mul(count) >> 32) as usize
     }
 
     /// The slot behind this one.
+    #[inline]
     pub(crate) fn behind(&self, at: usize) -> usize {
         let next = at.wrapping_add(1);
         if next < self.slots.len() { next } else { 0 }
     }
 
     /// The number in a slot, or `None` if it is empty.
+    #[inline]
     pub(crate) fn number(&self, at: usize) -> Option<u32> {
         let slot = *self.slots.get(at)?;
         (slot & self.mask).checked_sub(1)
     }
 
     /// Whether the number in a slot may be that of a thing with this hash.
+    #[inline]
     pub(crate) fn may_be(&self, at: usize, hash: u64) -> bool {
         match self.slots.get(at) {
             Some(slot) => (*slot ^ lower(hash)) & !self.mask == 0,

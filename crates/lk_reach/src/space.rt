@@ -113,7 +113,16 @@ impl Space {
         }
     }
 
+    /// The key of a state.
+    pub(crate) fn key_at(&self, state: usize) -> Key
+        requires { state < length self.now.keys }
+        ensures { slice_get self.now.keys state ≡ Some result }
+    {
+        self.keys.at(state)
+    }
+
     // The key of a state that may be met, or the key of none.
+    #[inline]
     fn near(&self, state: usize) -> Key {
         match self.keys.get(state) {
             Some(key) => key,
@@ -167,6 +176,7 @@ impl Space {
     }
 
     // The class of the part with this number, if it has one.
+    #[inline]
     fn class(&self, part: u32) -> Option<u32>
         ensures { IfSome result (λ c. slice_get self.now.classes part ≡ Some c) }
     {
@@ -177,6 +187,7 @@ impl Space {
     }
 
     // The form of a key: the classes of its parts, if each has one.
+    #[inline]
     fn form_of(&self, key: &Key) -> Option<Key>
         ensures { IfSome result (λ form. IsFormOf self.now.classes key.now form) }
     {
@@ -199,6 +210,7 @@ impl Space {
     }
 
     // Whether a part has this class.
+    #[inline]
     fn is_class(&self, part: u32, class: u32) -> bool
         ensures { result ≡ true → slice_get self.now.classes part ≡ Some class }
     {
@@ -210,6 +222,7 @@ impl Space {
 
     // Whether these parts have these classes. Most parts of two keys are apart early, so this is
     // less than to look up all classes.
+    #[inline]
     fn are_classes(&self, parts: &[u32], classes: &[u32]) -> bool
         ensures { result ≡ true → AreClasses self.now.classes parts.now classes.now }
     {
@@ -225,6 +238,7 @@ impl Space {
     }
 
     // Whether this is the form of a key.
+    #[inline]
     fn is_form_of(&self, key: &Key, form: &Key) -> bool
         ensures { result ≡ true → IsFormOf self.now.classes key.now form.now }
     {
@@ -235,6 +249,7 @@ impl Space {
     }
 
     // Whether the state with this number has this form.
+    #[inline]
     fn has_form(&self, number: usize, form: &Key) -> bool
         ensures { result ≡ true → (item : KeyValue) × (slice_get self.now.keys number ≡ Some item)
             × IsFormOf self.now.classes item form.now }
@@ -352,8 +367,7 @@ impl Space {
         }
     }
 
-    // The number of the state with this key or with one of the same form. It gets one if there is
-    // none.
+    // The number of the state with this key or of one of its form. It gets one if there is none.
     fn number(&mut self, key: &Key) -> Result<u32, Memory>
         ensures { IfOk result (λ k. IsNumbered self.old self.new key.now k) }
     {
@@ -403,8 +417,7 @@ impl Space {
         Ok(number)
     }
 
-    /// The number of this state, if it is the one with this key, or differs from it in dead registers
-    /// alone.
+    /// This number, if its state has this key, or differs from that one in dead registers alone.
     pub(crate) fn like(&self, state: usize, key: &Key) -> Option<u32>
         ensures same { IfSome result (λ k. k ≡ state) }
         ensures alike { IfSome result (λ k. (s t : MachineValue) → Keeps self.now state s

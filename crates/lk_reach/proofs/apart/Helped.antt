@@ -17,6 +17,7 @@ use Rattle.lk_reach.specs.declared.found.Then.TheVariants as then
 use Rattle.lk_reach.specs.declared.helper.Helper.{Helper}
 use Rattle.lk_reach.specs.declared.key.Key.{Key}
 use Rattle.lk_reach.specs.declared.plan.Plan.{Plan}
+use Rattle.lk_reach.specs.declared.steps.Made.{Made}
 use Rattle.lk_reach.specs.Explored.{IsGood, IsSuch}
 use Rattle.lk_reach.specs.Folded.{IsHere, IsNoted, StandsFor}
 use Rattle.lk_reach.specs.Helped.{AreFound, AreFresh, AreHelpers, HasLooked, IsFound, IsFresh, IsHelper, IsKeyNoted, IsKnown, IsOneOf}
@@ -25,10 +26,11 @@ use Rattle.lk_reach.specs.Reach.{IsBegun, IsMove, IsReached, after}
 use Rattle.lk_reach.specs.Space.{Grows, IsSameKind, Keeps, KeyKeeps, SpaceValue}
 use Rattle.lk_reach.proofs.Closed.{reached_such, reached_then, rest_cpus_of, same_state}
 use Rattle.lk_reach.proofs.Folded.{laws, stands_alike}
-use Rattle.lk_reach.proofs.Grown.{like_grown}
+use Rattle.lk_reach.proofs.apart.Grown.{like_grown}
 use Rattle.lk_reach.proofs.Kept.{key_grown, keeps_grown, one_value}
 use Rattle.lk_reach.proofs.Left.{grows_self}
 use Rattle.lk_reach.proofs.apart.Noted.{plain_noted, same_kind}
+use Rattle.lk_reach.proofs.apart.Remembered.{made_grown}
 
 -- nothing stands in an empty list
 none_there : {A : Type 0} → (i : ℕ) (x : A) → slice_get [] i ≡ Some x → ⊥
@@ -40,6 +42,8 @@ fresh_helpers plan setup v hs x i h at =
     let y = x i h at in
     record {
       such = y.such;
+      made = λ j e is. absurd (none_there j (Some e)
+          (subst (λ (es : List (Option Made)). slice_get es j ≡ Some (Some e)) y.no_steps is));
       found = λ j f is. absurd (none_there j f (subst (λ (fs : List Finding). slice_get fs j ≡ Some f) y.none is));
     }
 
@@ -108,7 +112,11 @@ module _ (plan : Plan) (setup : Setup) where
       → AreHelpers plan setup w hs
   helpers_grown v w g hs x i h at =
       let y = x i h at in
-      record { such = y.such; found = λ j f is. found_grown v w g f (y.found j f is) }
+      record {
+        such = y.such;
+        made = made_grown setup v w g h.steps.made.items y.made;
+        found = λ j f is. found_grown v w g f (y.found j f is);
+      }
 
   pub one_found : (v : SpaceValue) (hs : List Helper) (f : Finding) → AreHelpers plan setup v hs → IsOneOf hs f
       → IsFound plan setup v f

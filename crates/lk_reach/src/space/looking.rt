@@ -49,7 +49,7 @@ impl Space {
     pub(crate) fn begin_look<R: Threads + Sync>(&mut self, rt: &R, threads: usize, more: usize)
         ensures { self.new ≡ self.old }
     {
-        if threads == 0 {
+        if threads < 2 {
             return;
         }
         match self.recent.renew() {

@@ -1,4 +1,4 @@
-use Rattle.lk_reach.proofs.Counts.{counts_are_idle}
+use Rattle.lk_reach.proofs.apart.Counts.{counts_are_idle}
 use Rattle.lk_reach.proofs.laws.counts_are_idle.Goals as goal
 
 pub returns : goal.returns

@@ -6,6 +6,7 @@ use Rattle.lk_reach.specs.declared.helper.Helper.{Helper}
 use Rattle.lk_reach.specs.Explored.{IsSuch}
 use Rattle.lk_reach.specs.Helped.{HasLooked, IsReady, MayLook}
 use Rattle.lk_reach.specs.Space.{SpaceValue}
+use Rattle.lk_reach.specs.Steps.{AreMade}
 use Rattle.lk_reach.proofs.apart.Helped as helped
 use Rattle.lk_reach.proofs.crew.Crew.look_ahead.Goals as goal
 
@@ -24,6 +25,8 @@ look_at-requires-clause-ready g c κs outlives i d low =
     let ready : IsReady p v h = record {
       may = subst (λ (w : SpaceValue). MayLook p w h.machine.setup) (sym same) (subst (λ (q : Setup). MayLook p u q) back c.requires.may);
       such = subst (λ (q : Setup). IsSuch q h.machine) back it.such;
+      made = subst (λ (w : SpaceValue). AreMade h.machine.setup w h.steps.made.items) (sym same)
+          (subst (λ (q : Setup). AreMade q u h.steps.made.items) back it.made);
     } in
     subst (λ (xs : List Helper). IsReady p v (slice_index_or xs i d)) (sym value) ready
 

@@ -2,6 +2,7 @@ use Rattle.std.proofs.Common.{◌∙◌, sym, subst}
 use Rattle.lk_rows.specs.declared.setup.Setup.{Setup}
 use Rattle.lk_reach.specs.Explored.{IsSuch}
 use Rattle.lk_reach.specs.Helped.{AreFound, IsHelper, MayLook}
+use Rattle.lk_reach.specs.Steps.{AreMade}
 use Rattle.lk_reach.proofs.helper.Helper.look.Goals as goal
 
 pub leave-requires-clause-ready : goal.leave-requires-clause-ready
@@ -11,6 +12,7 @@ leave-requires-clause-ready c =
     record {
       may = subst (λ (q : Setup). MayLook c.args.plan.now c.args.space.now q) back c.requires.ready.may;
       such = subst (λ (q : Setup). IsSuch q c.loop-state.self.machine) back inv.such;
+      made = subst (λ (q : Setup). AreMade q c.args.space.now c.loop-state.self.steps.made.items) back inv.made;
     }
 
 pub leave-requires-clause-found : goal.leave-requires-clause-found
@@ -26,5 +28,6 @@ loop-state-preserved c =
     record {
       same = e.setup ∙ inv.same;
       such = done.such;
+      made = done.made;
       found = done.found;
     }

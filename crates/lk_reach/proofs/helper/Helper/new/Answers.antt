@@ -12,4 +12,5 @@ returns c =
     record {
       such = subst (λ (m : Machine). IsSuch z m) (sym (c.in_ok-machine.ensures ∙ ap at_rest c.in_ok-copy.ensures.copy)) (helped.rest_such z);
       none = c.new-2.ensures.items;
+      no_steps = c.none.ensures;
     }

@@ -1,0 +1,128 @@
+// A state that is left, and where an act leads from it: as a step on the same parts led, and else by
+// making it.
+
+ghost use Rattle.std.specs.Prelude.{◌≡◌, ◌<◌, ◌≤◌, IfSome, length};
+ghost use Rattle.lk_abs.specs.declared.events.Act.TheVariants as act;
+ghost use Rattle.lk_rows.specs.Acts.{processor_of};
+ghost use Rattle.lk_reach.specs.declared.steps.Made.{Made as MadeValue};
+ghost use Rattle.lk_reach.specs.Explored.{IsSuch};
+ghost use Rattle.lk_reach.specs.Reach.{cpus_of};
+ghost use Rattle.lk_reach.specs.Steps.{AreMade, IsLed, IsMadeOn, IsRemembered, IsSpot, Remembers};
+
+use crate::key::Key;
+use crate::making::make;
+use crate::space::Space;
+use crate::steps::{Made, Steps};
+use crate::touch::touched_by;
+use lk_abs::{Act, Event};
+use lk_machine::Machine;
+
+/// The state that is left, by its number, and its key.
+#[derive(Clone, Copy)]
+pub(crate) struct Spot {
+    pub state: usize,
+    pub key: Key,
+}
+
+/// The key of what an act led to, and what it told.
+#[derive(Clone, Copy)]
+pub(crate) struct Led {
+    pub key: Key,
+    pub event: Option<Event>,
+}
+
+// A step on a state, and where it led.
+fn made_on(spot: &Spot, led: &Led, cpu: u32, other: u32) -> Made
+    requires low { cpu < 8 }
+    requires near { other < 8 }
+    ensures { IsMadeOn spot.now led.now cpu other result }
+{
+    Made {
+        cpu,
+        other,
+        shared: spot.key.shared,
+        part: spot.key.cpus[cpu as usize],
+        beside: spot.key.cpus[other as usize],
+        then_shared: led.key.shared,
+        then_part: led.key.cpus[cpu as usize],
+        then_beside: led.key.cpus[other as usize],
+        event: led.event,
+    }
+}
+
+// Remembers a step on a state and where it led, if it is known whom it touched. There are so many
+// states.
+fn remember(steps: &mut Steps, spot: &Spot, led: &Led, touched: Option<(u32, u32)>, states: usize)
+    requires { IfSome touched (λ f. (f.0 < 8) × (f.1 < 8)) }
+    ensures { Remembers touched spot.now led.now steps.old.made.items steps.new.made.items }
+{
+    if let Some((cpu, other)) = touched {
+        steps.remember(made_on(spot, led, cpu, other), states);
+    }
+}
+
+// Makes an act on a state. Returns where it led, if each part of that was met.
+fn make_on(
+    space: &Space,
+    machine: &mut Machine,
+    steps: &mut Steps,
+    spot: &Spot,
+    doing: Act,
+) -> Option<Led>
+    requires such { IsSuch machine.old.setup machine.old }
+    requires few { length machine.old.cpus ≤ 8 }
+    requires made { AreMade machine.old.setup space.now steps.old.made.items }
+    requires spot { IsSpot machine.old.setup space.now spot.now }
+    requires range { processor_of doing < cpus_of machine.old.setup }
+    ensures led { IfSome result
+        (λ led. IsLed machine.old.setup space.now spot.now.state doing led) }
+    ensures such { IsSuch machine.old.setup machine.new }
+    ensures made { AreMade machine.old.setup space.now steps.new.made.items }
+{
+    space.load(spot.state, machine);
+    let touched = touched_by(machine, doing);
+    let event = make(machine, doing);
+    let key = space.key_seen(machine, spot.state)?;
+    let led = Led { key, event };
+    remember(steps, spot, &led, touched, space.len());
+    Some(led)
+}
+
+// Where a step led that was made on the same parts as this state has.
+fn remembered(steps: &Steps, spot: &Spot, doing: Act) -> Option<Led>
+    ensures { IfSome result (λ led. IsRemembered steps.now.made.items spot.now.key doing led) }
+{
+    let Act::Step(cpu) = doing else {
+        return None;
+    };
+    let made = steps.find(&spot.key, cpu)?;
+    Some(Led {
+        key: made.then(&spot.key),
+        event: made.event,
+    })
+}
+
+/// Where an act leads on a state, if a step was made on the same parts, or each part of what it leads to
+/// was met.
+pub(crate) fn lead(
+    space: &Space,
+    machine: &mut Machine,
+    steps: &mut Steps,
+    spot: &Spot,
+    doing: Act,
+) -> Option<Led>
+    requires such { IsSuch machine.old.setup machine.old }
+    requires few { length machine.old.cpus ≤ 8 }
+    requires made { AreMade machine.old.setup space.now steps.old.made.items }
+    requires spot { IsSpot machine.old.setup space.now spot.now }
+    requires range { processor_of doing < cpus_of machine.old.setup }
+    ensures led { IfSome result
+        (λ led. IsLed machine.old.setup space.now spot.now.state doing led) }
+    ensures such { IsSuch machine.old.setup machine.new }
+    ensures made { AreMade machine.old.setup space.now steps.new.made.items }
+{
+    match remembered(steps, spot, doing) {
+        Some(led) => Some(led),
+        None => make_on(space, machine, steps, spot, doing),
+    }
+}
