@@ -9,9 +9,18 @@ use Rattle.lk_domain.specs.declared.plan.Plan.{Plan}
 use Rattle.lk_domain.specs.declared.slot.Stowed.TheVariants.{CellKey}
 use Rattle.lk_abs.specs.declared.names.Kind.TheVariants.{Rw}
 use Rattle.lk_lock.specs.Ended.{HasAllKeys, HasKeyOf, KeepsOthers}
-use Rattle.lk_lock.specs.Standing.{IsSharedUnder}
+use Rattle.atomic_table.specs.declared.shared.Seat.{Seat}
+use Rattle.lk_domain.specs.Plays.{carried_of}
+use Rattle.lk_domain.specs.Seated.{IsSeatOf}
+use Rattle.lk_domain.specs.declared.view.View.{View}
+use Rattle.lk_lock.specs.Families.{number_of, plan_of, seat_of, table_of, view_of}
+use Rattle.lk_lock.specs.Standing.{IsReady, IsSharedUnder}
+use Rattle.lk_lock.specs.declared.family.AnyCpu.{AnyCpu}
+use Rattle.lk_lock.specs.declared.family.AnyCpu.TheVariants as cpu
+use Rattle.lk_lock.specs.declared.family.AnyDomain.{AnyDomain}
 use Rattle.lk_lock.specs.declared.keys.Keys.{Keys}
 use Rattle.lk_lock.proofs.Laid.{own_under}
+use Rattle.lk_lock.proofs.Steps.{numbered}
 
 -- what stands at a place of the list
 record StandsAt (xs : List (Option Key)) (l : ℕ) : Type 0 where
@@ -70,3 +79,24 @@ pub shared_key : (k : Plan) (keys : Keys) (l : ℕ) (cells : List TableId) → H
 shared_key k keys l [] all is = let many = is.many in absurd (omega (arith, many))
 shared_key k keys l (c ∷ cs) all is =
     (c, refl, all Rw l c (own_under k l (c ∷ cs) c is refl))
+
+-- the places of what a processor has out
+carried : (c : AnyCpu) → (seat_of c).me.1 ≡ carried_of (view_of c)
+carried (cpu.Awake x) = x.carried
+carried (cpu.Halting x) = x.carried
+
+-- the right of a processor, as the steps at the end ask for it
+pub seat_in : (c : AnyCpu) (d : AnyDomain) → IsReady d c → (s : Seat Slot View) → s ≡ seat_of c → IsSeatOf (plan_of d) (table_of d) s
+seat_in c d ready s is =
+    subst (λ (x : Seat Slot View). IsSeatOf (plan_of d) (table_of d) x) (sym is)
+    (record {
+      table_is = ready.table;
+      plan_is = ready.plan;
+      number = (number_of c, numbered c);
+      carried = carried c;
+    })
+
+-- what holds of a plan and a table holds of the same by other names
+pub named : (P : Plan → TableId → Type 0) {k j : Plan} {t u : TableId} → k ≡ j → t ≡ u → P j u → P k t
+named P {k} {j} {t} {u} plan table holds =
+    subst (λ (x : Plan). P x t) (sym plan) (subst (λ (x : TableId). P j x) (sym table) holds)

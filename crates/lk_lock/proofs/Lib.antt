@@ -1,8 +1,9 @@
 pub mod Marks
 pub mod Steps
+pub mod AwakeSteps
+pub mod HaltingSteps
 pub mod Laid
 pub mod Mades
 pub mod Resting
 pub mod Closings
-pub mod PvSteps
-pub mod PvResting
+pub mod Crossing

@@ -1,5 +1,5 @@
 -- A processor takes a lock and its value, and gives both back.
-use Rattle.std.proofs.Common.{◌≡◌, ℕ, ◌<◌, List, [], ◌∷◌, length, Bool, true, false, Some, eqb, eq-eqb, refl, sym, ap, ◌∙◌, subst, inl, inr, arith}
+use Rattle.std.proofs.Common.{◌≡◌, ℕ, ◌<◌, List, [], ◌∷◌, length, Bool, true, false, Some, eqb, eq-eqb, refl, sym, ap, ◌∙◌, inl, inr, arith}
 use Rattle.std.proofs.lemmas.Bool.{cases_Bool}
 use Rattle.std.specs.Prelude.{if◌then◌else◌, ◌&&◌, ◌||◌}
 use Rattle.lk_abs.specs.Names.{same_lock}
@@ -9,13 +9,9 @@ use Rattle.lk_law.proofs.common.Puts.{if-true, if-false}
 use Rattle.lk_law.proofs.common.Sames.{same_lock-self}
 use Rattle.lk_domain.specs.Calls.{Mark, Running, Hold, Calls, Takes, holds_in, waits_in, hold_in, lock_name, moved_to, free_of}
 use Rattle.lk_domain.specs.Ledgers.{Ledger, turned, opened, is_first}
-use Rattle.lk_domain.specs.Plans.{cpus_of}
-use Rattle.lk_domain.specs.Seats.{IsOf, IsSame}
 use Rattle.lk_domain.specs.Values.{marked_out, out_in}
 use Rattle.lk_domain.specs.Waits.{MayTake}
-use Rattle.lk_domain.specs.Who.{Who}
-use Rattle.lk_domain.specs.declared.cpu.Cpu.{Cpu}
-use Rattle.lk_domain.specs.declared.domain.Domain.{Domain}
+use Rattle.lk_pvdomain.specs.PvCalls.{without}
 
 -- a call may begin that takes a lock
 pub may_take : (l : ℕ) (c : Calls) → c.frames ≡ [] → holds_in c.holds l ≡ false → MayTake l c
@@ -29,16 +25,6 @@ may_take l c none free =
 pub few_of : (c : Calls) → c.frames ≡ [] → length c.frames < 6
 few_of c none = let z : length c.frames ≡ 0 = ap (λ (rs : List Running). length rs) none in omega (arith, z)
 
--- the same processor is one of the same domain
-pub still_of : (d : Domain) (old new : Cpu) → IsSame old new → IsOf old d → IsOf new d
-still_of d old new same is =
-    record {
-      table = same.table ∙ is.table;
-      plan = ap (λ (w : Who). w.plan) same.who ∙ is.plan;
-      low = subst (λ (n : ℕ). n < cpus_of d.plan) (sym same.number) is.low;
-      awake = is.awake;
-    }
-
 -- a look that begins leaves the journal where it is
 pub turned_out : (g : Ledger) (n : LockName) (m : Manner) (t : List Mark)
     → (turned g n (Takes m) t).out ≡ g.out
@@ -50,7 +36,7 @@ turned_out g n m t = pick (is_first n)
 
 -- the newest hold is that of the lock
 
-abbrev mine : (l n : ℕ) (m : Manner) (b : Bool) → Hold
+abbrev pub mine : (l n : ℕ) (m : Manner) (b : Bool) → Hold
 mine l n m b = record { ctx = 0; lock = lock_name l; manner = m; nth = n; out = b }
 
 pub found : (l n : ℕ) (m : Manner) (b : Bool) (hs : List Hold)
@@ -124,3 +110,22 @@ dropped k l n m hs none =
     (record (mine l n m false) { ctx = k } ∷ free_of k (lock_name l) (moved_to k (lock_name l) hs))
     (λ i. eq-eqb k k refl i && same_lock-self (lock_name l) i)
     ∙ untouched k l hs none)
+
+-- the same where the family halts
+
+kept_without : (l : ℕ) (hs : List Hold) → holds_in hs l ≡ false → without (lock_name l) hs ≡ hs
+kept_without l [] none = refl
+kept_without l (h ∷ hs) none = elim (cases_Bool (same_lock h.lock (lock_name l))) [
+  | inl e ↦ absurd (let z : true ≡ false = sym (if-true (same_lock h.lock (lock_name l)) true (holds_in hs l) e) ∙ none in let y : ⊥ = cc z in y)
+  | inr e ↦
+      if-false (same_lock h.lock (lock_name l)) (without (lock_name l) hs) (h ∷ without (lock_name l) hs) e
+      ∙ ap (λ (xs : List Hold). h ∷ xs)
+      (kept_without l hs (sym (if-false (same_lock h.lock (lock_name l)) true (holds_in hs l) e) ∙ none))
+]
+
+pub left_without : (l n : ℕ) (m : Manner) (hs : List Hold) → holds_in hs l ≡ false
+    → without (lock_name l) (mine l n m false ∷ hs) ≡ hs
+left_without l n m hs none =
+    if-true (same_lock (lock_name l) (lock_name l)) (without (lock_name l) hs)
+    (mine l n m false ∷ without (lock_name l) hs) (same_lock-self (lock_name l))
+    ∙ kept_without l hs none

@@ -1,6 +1,7 @@
+pub mod Families
+pub mod Turns
 pub mod Standing
 pub mod Cells
 pub mod Made
 pub mod Lending
 pub mod Ended
-pub mod PvStanding

@@ -3,23 +3,25 @@
 //!
 //! [`Locks`] makes the locks one by one, each with its value: a [`Spin`] is a value under a spinlock, an
 //! [`Rw`] one under a reader-writer lock, a [`Shared`] one that readers share. [`Locks::open`] gives the
-//! domain in which they are, and a processor for each thread. A thread makes a [`Seat`] of its processor
-//! and calls [`Seat::with`], or takes a lock by [`Held::lock`] until the guard is dropped.
-//! [`Open::close`] ends the domain, and then [`Spin::into_value`] and its kin give the values back.
+//! domain in which they are, of the lock family that it is told, and a processor for each thread. A thread
+//! makes a [`Seat`] of its processor and calls [`Seat::with`], or takes a lock by [`Held::lock`] until
+//! [`Held::unlock`]. [`Open::close`] ends the domain, and then [`Spin::into_value`] and its kin give the
+//! values back.
 //!
-//! Where all are spinlocks, [`Locks::open_pv`] makes paravirtual ones of them: then a thread makes a
-//! [`PvSeat`] of its processor, and calls [`PvSeat::with`].
+//! What may wait says so by its bound `Wait`. A release of a paravirtual lock may wait; so where waiters
+//! halt, [`Seat::try_turn`] stands for [`Seat::try_with`], and a guard is given back and never dropped.
 #![tactic(auto)]
 
+mod awake;
+mod family;
+mod halting;
 mod held;
 mod holding;
 mod keys;
 mod laying;
 mod locks;
 mod looking;
-mod pv_holding;
-mod pv_locks;
-mod pv_seat;
+mod opening;
 mod reading;
 mod seat;
 mod shared;
@@ -27,10 +29,10 @@ mod showing;
 mod working;
 mod writing;
 
+pub use family::{AnyCpu, AnyDomain};
 pub use held::Held;
 pub use keys::Keys;
-pub use locks::{Locks, Open, Rw, Spin};
-pub use pv_locks::PvOpen;
-pub use pv_seat::PvSeat;
+pub use locks::{Locks, Rw, Spin};
+pub use opening::Open;
 pub use seat::Seat;
 pub use shared::Shared;

@@ -1,17 +1,12 @@
 // The locks of a program, each with its value.
 ghost use Rattle.std.specs.Prelude.{◌≡◌, ◌+◌, ◌<◌, ◌≤◌, [], ◌∷◌, ◌++◌, IfOk, length, false, true};
-ghost use Rattle.std.specs.Prelude.{replicate};
 ghost use Rattle.lk_abs.specs.declared.names.Kind.TheVariants.{Rw as shared, Spin as spinning};
-ghost use Rattle.lk_domain.specs.Ends.{AllRest};
-ghost use Rattle.lk_domain.specs.Plans.{cpus_of};
 ghost use Rattle.lk_domain.specs.declared.plan.TheConstants.{MOST_CPUS, MOST_LOCKS};
-ghost use Rattle.lk_law.specs.Agree.{halts};
 ghost use Rattle.lk_lock.specs.Cells.{AllShut, EachShut};
 
-use crate::laying::laid_out;
-use lk_abs::{Format, Kind, List, Memory, Mode, Topology};
+use lk_abs::{Kind, List, Memory};
 use lk_cell::{Any, Key, KeyCell};
-use lk_domain::{Cpu, Domain, LockId, MOST_LOCKS, Plan};
+use lk_domain::{LockId, MOST_LOCKS};
 use std::alloc::Global;
 
 /// A value under a spinlock.
@@ -27,9 +22,6 @@ pub struct Rw<T> {
     pub(crate) id: LockId,
     pub(crate) cell: KeyCell<T, Any>,
 }
-
-// The most handoffs that may pass a moved waiter, in mode `cna`.
-const THRESHOLD: u32 = 16;
 
 /// Locks to be made, at most 4,096, and how many threads will take them.
 #[derive(Drop)]
@@ -48,16 +40,8 @@ pub struct Locks {
     ghost shut: { AllShut keys.items },
 }
 
-/// Locks, in the domain where threads take them, and a processor for each thread.
-#[derive(Drop)]
-pub struct Open {
-    pub domain: Domain,
-    pub cpus: List<Cpu>,
-}
-
 impl Locks {
-    ghost use Rattle.lk_lock.specs.Made.{AreMade, AreSharedMade, AreSpins, IsAmong, IsPlanFor};
-    ghost use Rattle.lk_lock.specs.Made.{Keeps, KeepsShared};
+    ghost use Rattle.lk_lock.specs.Made.{AreSpins, IsAmong, Keeps, KeepsShared};
 
     /// None yet, for so many threads: 1 to 1,024.
     ///
@@ -88,6 +72,13 @@ impl Locks {
         self.kinds.len()
     }
 
+    /// Whether all of them are spinlocks. Then they may be opened as paravirtual ones too.
+    pub fn are_spins(&self) -> bool
+        ensures { result ≡ true → AreSpins self.now }
+    {
+        self.kinds.as_slice().iter().all(|kind| *kind == Kind::Spin)
+    }
+
     // One more, whose values lie in the cells of these keys.
     pub(crate) fn add(&mut self, kind: Kind, keys: List<Key>) -> LockId
         requires room { length self.old.kinds.items < MOST_LOCKS }
@@ -104,7 +95,7 @@ impl Locks {
     }
 
     // How many values a lock has at most.
-    fn values(&self) -> u32
+    pub(crate) fn values(&self) -> u32
         ensures own { (0 < result) × (result ≤ 1 + MOST_CPUS) }
         ensures copies { self.now.copied ≡ true → result ≡ 1 + self.now.threads }
     {
@@ -156,67 +147,5 @@ impl Locks {
         keys.push(key);
         let id = self.add(Kind::Rw, keys);
         Ok(Rw { id, cell })
-    }
-
-    /// The locks, all of this family, and a processor for each thread, all on socket 0. There is at
-    /// least one lock. In mode `cna` a moved waiter is passed by 16 handoffs at most.
-    ///
-    /// # Errors
-    ///
-    /// There is not enough memory. No value comes back.
-    pub fn open(self, mode: Mode) -> Result<Open, Memory>
-        requires some { 0 < length self.kinds.items }
-        requires awake { halts mode ≡ false }
-        ensures plan { IfOk result (λ all. IsPlanFor self mode (replicate self.threads 0) 16
-            all.domain.plan) }
-        ensures made { IfOk result (λ all. AreMade self all.domain.plan) }
-        ensures shared { IfOk result (λ all. AreSharedMade self all.domain.plan) }
-        ensures many { IfOk result (λ all. length all.cpus.items ≡ self.threads) }
-        ensures each { IfOk result (λ all. length all.cpus.items ≡ cpus_of all.domain.plan) }
-        ensures rest { IfOk result (λ all. AllRest all.domain all.cpus.items) }
-    {
-        let sockets = List::filled(self.alloc, 0, self.threads as usize)?;
-        self.open_on(mode, Topology { sockets })
-    }
-
-    /// The same, with each processor on the socket that the topology lists for it. In mode `cna` a
-    /// lock is handed to a waiter on the holder's socket first.
-    ///
-    /// # Errors
-    ///
-    /// There is not enough memory. No value comes back.
-    pub fn open_on(self, mode: Mode, topology: Topology) -> Result<Open, Memory>
-        requires some { 0 < length self.kinds.items }
-        requires threads { length topology.sockets.items ≡ self.threads }
-        requires awake { halts mode ≡ false }
-        ensures plan { IfOk result (λ all. IsPlanFor self mode topology.sockets.items 16
-            all.domain.plan) }
-        ensures made { IfOk result (λ all. AreMade self all.domain.plan) }
-        ensures shared { IfOk result (λ all. AreSharedMade self all.domain.plan) }
-        ensures many { IfOk result (λ all. length all.cpus.items ≡ self.threads) }
-        ensures each { IfOk result (λ all. length all.cpus.items ≡ cpus_of all.domain.plan) }
-        ensures rest { IfOk result (λ all. AllRest all.domain all.cpus.items) }
-    {
-        let values = self.values();
-        let Locks {
-            alloc,
-            threads,
-            kinds,
-            keys,
-            copied: _,
-        } = self;
-        let keys = laid_out(alloc, keys, values)?;
-        let plan = Plan {
-            format: Format::One,
-            mode,
-            topology,
-            threshold: THRESHOLD,
-            locks: kinds,
-            balances: List::new(alloc, 0)?,
-            shares: List::filled(alloc, 0, threads as usize)?,
-            cells: None,
-        };
-        let (domain, cpus) = Domain::with_values(alloc, &plan, keys)?;
-        Ok(Open { domain, cpus })
     }
 }

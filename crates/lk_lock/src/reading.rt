@@ -1,42 +1,68 @@
-// The calls of a reader on a reader-writer lock, by a processor that is in no call.
-ghost use Rattle.std.specs.Prelude.{◌≡◌, ◌<◌, false};
+// The calls of a reader on a reader-writer lock, by a processor that is in no call. No domain has one whose
+// waiters halt.
+ghost use Rattle.std.specs.Prelude.{◌≡◌, false};
 ghost use Rattle.lk_abs.specs.declared.holder.Manner.TheVariants.{Reads};
 ghost use Rattle.lk_abs.specs.declared.names.Kind.TheVariants.{Rw};
-ghost use Rattle.lk_domain.specs.Calls.{holds_in, terms_of};
-ghost use Rattle.lk_domain.specs.Seats.{calls_of};
-ghost use Rattle.lk_domain.specs.declared.cpu.Cpu.{Cpu};
-ghost use Rattle.lk_lock.specs.Standing.{HasComeIn, IsAsBefore, IsHolding, IsOfKind, IsReady};
-ghost use Rattle.lk_lock.specs.Standing.{holds_of};
+ghost use Rattle.lk_domain.specs.Calls.{holds_in};
+ghost use Rattle.lk_lock.specs.Families.{holds_of, plan_of};
+ghost use Rattle.lk_lock.specs.Standing.{EntersLock, IsHolding, IsOfKind, IsReady, LeavesLock};
+ghost use Rattle.lk_lock.specs.declared.family.AnyCpu.{AnyCpu};
+ghost use Rattle.lk_lock.specs.declared.family.AnyCpu.TheVariants.{Awake as awake_cpu};
+ghost use Rattle.lk_lock.specs.declared.family.AnyDomain.TheVariants.{Awake as awake_domain};
 ghost use Rattle.lk_rows.specs.declared.parts.Pc.TheVariants.{Z1};
 ghost use Rattle.lk_rows.specs.declared.setup.Verb.TheVariants.{Read};
-ghost use Rattle.lk_run.specs.Entering.{HasLeft};
 
+use crate::family::{AnyCpu, AnyDomain};
 use lk_domain::{Cpu, Domain, LockId};
 use lk_run::{NoIrq, read_lock, read_unlock};
 use std::sync::Wait;
 
 // Takes the lock.
-pub(crate) fn come_in<R: Wait>(cpu: &mut Cpu, rt: &R, domain: &Domain, id: LockId)
-    requires ready { IsReady domain.now cpu.old }
+fn come_in_awake<R: Wait>(cpu: &mut Cpu, rt: &R, domain: &Domain, id: LockId)
+    requires ready { IsReady (awake_domain domain.now) (awake_cpu cpu.old) }
     requires lock { IsOfKind domain.now.plan Rw id.index }
-    requires free { holds_in (holds_of cpu.old) id.index ≡ false }
-    ensures ready { IsReady domain.now cpu.new }
-    ensures holding { IsHolding id.index Reads cpu.old cpu.new }
-    ensures path { HasComeIn (terms_of domain.now.plan) cpu.old.number Read id.index Reads
-        (calls_of cpu.old) (calls_of cpu.new) }
+    requires free { holds_in cpu.old.seat.me.0.calls.holds id.index ≡ false }
+    ensures { EntersLock (awake_domain domain.now) Read id.index Reads (awake_cpu cpu.old)
+        (awake_cpu cpu.new) }
 {
     read_lock(cpu, rt, domain, id, &mut NoIrq);
 }
 
-// Frees the lock, which was taken last.
-pub(crate) fn go_out(cpu: &mut Cpu, domain: &Domain, id: LockId)
+// The same of a processor of whichever family.
+pub(crate) fn come_in<R: Wait>(cpu: &mut AnyCpu, rt: &R, domain: &AnyDomain, id: LockId)
     requires ready { IsReady domain.now cpu.old }
+    requires lock { IsOfKind (plan_of domain.now) Rw id.index }
+    requires free { holds_in (holds_of cpu.old) id.index ≡ false }
+    ensures { EntersLock domain.now Read id.index Reads cpu.old
+        cpu.new }
+{
+    match (cpu, domain) {
+        (AnyCpu::Awake(cpu), AnyDomain::Awake(domain)) => come_in_awake(cpu, rt, domain, id),
+        _ => unreachable!(),
+    }
+}
+
+// Frees the lock, which was taken last.
+fn go_out_awake(cpu: &mut Cpu, domain: &Domain, id: LockId)
+    requires ready { IsReady (awake_domain domain.now) (awake_cpu cpu.old) }
     requires lock { IsOfKind domain.now.plan Rw id.index }
-    requires holding { (before : Cpu) × IsHolding id.index Reads before cpu.old }
-    ensures ready { IsReady domain.now cpu.new }
-    ensures before { (before : Cpu) → IsHolding id.index Reads before cpu.old
-        → IsAsBefore before cpu.new }
-    ensures left { HasLeft Z1 id.index (calls_of cpu.old) (calls_of cpu.new) }
+    requires holding { (before : AnyCpu) × IsHolding id.index Reads before (awake_cpu cpu.old) }
+    ensures { LeavesLock (awake_domain domain.now) Z1 id.index Reads (awake_cpu cpu.old)
+        (awake_cpu cpu.new) }
 {
     read_unlock(cpu, domain, id);
+}
+
+// The same of a processor of whichever family.
+pub(crate) fn go_out(cpu: &mut AnyCpu, domain: &AnyDomain, id: LockId)
+    requires ready { IsReady domain.now cpu.old }
+    requires lock { IsOfKind (plan_of domain.now) Rw id.index }
+    requires holding { (before : AnyCpu) × IsHolding id.index Reads before cpu.old }
+    ensures { LeavesLock domain.now Z1 id.index Reads cpu.old
+        cpu.new }
+{
+    match (cpu, domain) {
+        (AnyCpu::Awake(cpu), AnyDomain::Awake(domain)) => go_out_awake(cpu, domain, id),
+        _ => unreachable!(),
+    }
 }

@@ -2,9 +2,8 @@
 
 use crate::held::Held;
 use crate::keys::Keys;
-use crate::locks::{Locks, Open, Rw, Spin};
-use crate::pv_locks::PvOpen;
-use crate::pv_seat::PvSeat;
+use crate::locks::{Locks, Rw, Spin};
+use crate::opening::Open;
 use crate::seat::Seat;
 use crate::shared::Shared;
 use std::fmt::{Debug, Formatter, Result, Write};
@@ -45,17 +44,9 @@ impl Debug for Open {
     fn fmt<W: Write>(&self, f: &mut Formatter<W>) -> Result {
         f.debug_struct("Open")
             .field("mode", &self.domain.mode())
-            .field("locks", &self.domain.locks())
+            .field("locks", &self.domain.plan().locks.len())
             .field("cpus", &self.cpus.len())
             .finish()
-    }
-}
-
-impl Debug for PvOpen {
-    fn fmt<W: Write>(&self, f: &mut Formatter<W>) -> Result {
-        f.debug_struct("PvOpen")
-            .field("cpus", &self.cpus.len())
-            .finish_non_exhaustive()
     }
 }
 
@@ -68,14 +59,6 @@ impl Debug for Keys {
 impl<R> Debug for Seat<'_, R> {
     fn fmt<W: Write>(&self, f: &mut Formatter<W>) -> Result {
         f.debug_struct("Seat")
-            .field("cpu", &self.cpu.number())
-            .finish_non_exhaustive()
-    }
-}
-
-impl<R> Debug for PvSeat<'_, R> {
-    fn fmt<W: Write>(&self, f: &mut Formatter<W>) -> Result {
-        f.debug_struct("PvSeat")
             .field("cpu", &self.cpu.number())
             .finish_non_exhaustive()
     }

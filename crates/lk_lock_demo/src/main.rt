@@ -1,13 +1,10 @@
-//! Four threads, a queue and a counter under two locks, in each family whose waiters halt no processor.
+//! Four threads, a queue and a counter under two locks, in each lock family.
 //!
 //! Each turn draws a number under one lock and puts it into the queue under the other. The counter's
 //! lock ranks above the queue's, so no two threads ever wait for each other.
 #![tactic(auto)]
 
 mod turns;
-
-ghost use Rattle.std.specs.Prelude.{◌≡◌, false};
-ghost use Rattle.lk_law.specs.Agree.{halts};
 
 use lk_abs::{Memory, Mode};
 use lk_ranks::Ranks;
@@ -28,9 +25,7 @@ fn is_in_order(queue: &[u64]) -> bool {
     ordered
 }
 
-fn run<R: Threads + Wait + Sync + AllocGlobal>(rt: &R, mode: Mode) -> Result<bool, Memory>
-    requires awake { halts mode ≡ false }
-{
+fn run<R: Threads + Wait + Sync + AllocGlobal>(rt: &R, mode: Mode) -> Result<bool, Memory> {
     let mut ranks = Ranks::new(rt.alloc(), 4)?;
     let queue = ranks.spin(Vec::with_capacity(rt.alloc(), ROOM)?)?;
     let count = ranks.spin_above(queue.rank(), 0u64)?;
@@ -52,7 +47,8 @@ fn run_all<R: Threads + Wait + Sync + AllocGlobal>(rt: &R) -> Result<bool, Memor
     let virt = run(rt, Mode::Virt)?;
     let native = run(rt, Mode::Native)?;
     let cna = run(rt, Mode::Cna)?;
-    Ok(virt && native && cna)
+    let pv = run(rt, Mode::Pv)?;
+    Ok(virt && native && cna && pv)
 }
 
 fn main(rt: HostRuntime) -> io::Result<()> {

@@ -3,6 +3,8 @@
 #![tactic(auto)]
 
 #[cfg(test)]
+mod counts;
+#[cfg(test)]
 mod families;
 #[cfg(test)]
 mod holds;
@@ -10,8 +12,6 @@ mod holds;
 mod looks;
 #[cfg(test)]
 mod processors;
-#[cfg(test)]
-mod pv_values;
 #[cfg(test)]
 mod shared_values;
 #[cfg(test)]

@@ -2,13 +2,12 @@
 // and what is shown of a lock.
 ghost use Rattle.std.specs.Prelude.{◌≡◌};
 ghost use Rattle.lk_abs.specs.declared.names.Kind.TheVariants.{Rw as shared, Spin as spinning};
-ghost use Rattle.lk_domain.specs.Ends.{Rests};
-ghost use Rattle.lk_lock.specs.Standing.{IsUnder};
+ghost use Rattle.lk_lock.specs.Families.{plan_of};
+ghost use Rattle.lk_lock.specs.Standing.{IsUnder, Rests};
 
 use crate::processors::last;
 use lk_abs::{Memory, Mode};
-use lk_domain::{Cpu, Domain};
-use lk_lock::{Held, Locks, Open, Rw, Seat, Spin};
+use lk_lock::{AnyCpu, AnyDomain, Held, Locks, Open, Rw, Seat, Spin};
 use std::alloc::AllocError;
 use std::sync::Wait;
 
@@ -27,24 +26,30 @@ fn writer_works_on_the_value(rt: HostRuntime) -> Result<(), Memory> {
     Ok(())
 }
 
-#[test]
-fn guard_gives_the_value_back(rt: HostRuntime) -> Result<(), Memory> {
+// Whether a guard gives the value back, and frees the lock inside which it took another.
+fn guards<R: Wait + AllocGlobal>(rt: &R, mode: Mode) -> Result<bool, Memory> {
     let mut locks = Locks::new(rt.alloc(), 2)?;
     let first = locks.spin(1u64)?;
     let second = locks.spin(2u64)?;
-    let Open { domain, mut cpus } = locks.open(Mode::Native)?;
+    let Open { domain, mut cpus } = locks.open(mode)?;
     let mut next = last(&domain, &mut cpus);
     let mut cpu = last(&domain, &mut cpus);
-    {
-        let mut held = Held::lock(&mut cpu, &rt, &domain, &first);
-        let other = held.with(&second, |number: &mut u64| -> u64 { *number });
-        *held.value() = other;
-    }
-    let mut seat = Seat::new(&rt, &domain, &mut next);
-    let freed = seat.try_with(&second, |number: &mut u64| -> u64 { *number });
-    let left = seat.try_with(&first, |number: &mut u64| -> u64 { *number });
-    assert_eq!(rt; freed, Some(2));
-    assert_eq!(rt; left, Some(2));
+    let mut held = Held::lock(&mut cpu, rt, &domain, &first);
+    let other = held.with(&second, |number: &mut u64| -> u64 { *number });
+    *held.value() = other;
+    held.unlock();
+    let mut seat = Seat::new(rt, &domain, &mut next);
+    let freed = seat.try_turn(&second, |number: &mut u64| -> u64 { *number });
+    let left = seat.try_turn(&first, |number: &mut u64| -> u64 { *number });
+    Ok(freed == Some(2) && left == Some(2))
+}
+
+#[test]
+fn guard_gives_the_value_back(rt: HostRuntime) -> Result<(), Memory> {
+    assert!(rt; guards(&rt, Mode::Virt)?);
+    assert!(rt; guards(&rt, Mode::Native)?);
+    assert!(rt; guards(&rt, Mode::Cna)?);
+    assert!(rt; guards(&rt, Mode::Pv)?);
     Ok(())
 }
 
@@ -90,11 +95,11 @@ fn guard_is_refused_while_another_holds(rt: HostRuntime) -> Result<(), Memory> {
 }
 
 // Leaves a value under each lock.
-fn leave<R: Wait>(rt: &R, domain: &Domain, cpu: &mut Cpu, number: &Spin<u64>, other: &Rw<u32>)
+fn leave<R: Wait>(rt: &R, domain: &AnyDomain, cpu: &mut AnyCpu, number: &Spin<u64>, other: &Rw<u32>)
     requires rests { Rests domain.now 0 cpu.old }
-    requires number { IsUnder domain.now.plan spinning number.now.id.index
+    requires number { IsUnder (plan_of domain.now) spinning number.now.id.index
         number.now.cell.table.shared.table_id }
-    requires other { IsUnder domain.now.plan shared other.now.id.index
+    requires other { IsUnder (plan_of domain.now) shared other.now.id.index
         other.now.cell.table.shared.table_id }
     ensures rests { Rests domain.now 0 cpu.new }
 {

@@ -2,8 +2,8 @@
 ghost use Rattle.std.specs.Prelude.{◌≡◌, false};
 ghost use Rattle.lk_abs.specs.declared.names.Kind.TheVariants.{Rw, Spin};
 ghost use Rattle.lk_law.specs.Agree.{halts};
-ghost use Rattle.lk_domain.specs.Ends.{Rests};
 ghost use Rattle.lk_domain.specs.Plans.{kind_at, locks_of};
+ghost use Rattle.lk_race.specs.Bares.{Rests};
 
 use crate::course::{Course, is_write};
 use crate::plan::LOCK;

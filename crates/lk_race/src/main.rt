@@ -30,7 +30,6 @@ mod course;
 mod mutex_race;
 mod plan;
 mod pv_bare_race;
-mod pv_race;
 mod rw_race;
 mod spin_race;
 mod track;
@@ -41,12 +40,11 @@ use bare_race::{BareRace, BareRwTrack, BareTrack};
 use course::Course;
 use lk_abs::{Kind, List, Memory};
 use lk_domain::{Domain, close};
-use lk_lock::{Locks, Open, PvOpen};
+use lk_lock::{Locks, Open};
 use lk_pvdomain::{PvDomain, pv_close};
 use mutex_race::{MutexRace, take_all_mutex_turns};
 use plan::{plan_of, pv_plan_of, two_sockets};
 use pv_bare_race::{PvBareRace, PvBareTrack};
-use pv_race::{PvRace, PvTrack};
 use rw_race::{RwRace, RwTrack};
 use spin_race::{Size, SpinRace, SpinTrack};
 use std::io;
@@ -153,7 +151,7 @@ fn spin<R: Threads + Wait + Sync + AllocGlobal + Clock, V: Value + Send + Drop>(
     let mut locks = Locks::new(rt.alloc(), course.threads)?;
     let value = locks.spin(value)?;
     let topology = two_sockets(rt.alloc(), course.threads)?;
-    let Open { domain, mut cpus } = locks.open_on(race.mode, topology)?;
+    let Open { domain, mut cpus } = locks.open_on(race.mode, topology, race.spins)?;
     let track = SpinTrack {
         domain: &domain,
         value: &value,
@@ -190,30 +188,13 @@ fn rw<R: Threads + Wait + Sync + AllocGlobal + Clock>(
     let numbers = locks.shared([0u64; 2])?;
     let were_one = locks.spin(true)?;
     let topology = two_sockets(rt.alloc(), course.threads)?;
-    let Open { domain, mut cpus } = locks.open_on(race.mode, topology)?;
+    let Open { domain, mut cpus } = locks.open_on(race.mode, topology, 1)?;
     let track = RwTrack {
         domain: &domain,
         numbers: &numbers,
         were_one: &were_one,
     };
     on_track(rt, &track, &course, course.writes(), &mut cpus)
-}
-
-// A race for the paravirtual lock with this value.
-fn pv<R: Threads + Wait + Sync + AllocGlobal + Clock, V: Value + Send + Drop>(
-    rt: &R,
-    race: &PvRace,
-    value: V,
-) -> Result<Outcome, Memory> {
-    let course = race.course;
-    let mut locks = Locks::new(rt.alloc(), course.threads)?;
-    let value = locks.spin(value)?;
-    let PvOpen { domain, mut cpus } = locks.open_pv(race.spins)?;
-    let track = PvTrack {
-        domain: &domain,
-        value: &value,
-    };
-    on_track(rt, &track, &course, course.turns, &mut cpus)
 }
 
 // The race for which the words ask.
@@ -235,11 +216,6 @@ fn carry_out<R: Threads + Wait + Sync + AllocGlobal + Clock>(
         },
         Asked::Rw(race) => rw(rt, race),
         Asked::PvBare(race) => pv_bare(rt, race),
-        Asked::Pv(race) => match race.size {
-            Size::One => pv(rt, race, 0u64),
-            Size::Two => pv(rt, race, [0u64; 2]),
-            Size::Large => pv(rt, race, [0u64; 128]),
-        },
     }
 }
 

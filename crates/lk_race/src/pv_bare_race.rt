@@ -1,7 +1,7 @@
 // A race for a paravirtual lock with nothing under it.
 ghost use Rattle.std.specs.Prelude.{◌≡◌, ◌≤◌};
 ghost use Rattle.lk_domain.specs.Plans.{locks_of};
-ghost use Rattle.lk_lock.specs.PvStanding.{IsIdle};
+ghost use Rattle.lk_race.specs.Bares.{PvRests};
 
 use crate::course::Course;
 use crate::plan::LOCK;
@@ -30,7 +30,7 @@ pub struct PvBareTrack<'a> {
 impl Track for PvBareTrack<'_> {
     type Cpu = PvCpu;
 
-    ghost rests = { λ track. IsIdle track.domain.now };
+    ghost rests = { λ track. PvRests track.domain.now };
 
     ghost number = { λ cpu. cpu.number };
 
@@ -44,5 +44,5 @@ impl Track for PvBareTrack<'_> {
         }
     }
 
-    ghost own = { λ track i cpu idle. idle.rests.number };
+    ghost own = { λ track i cpu rests. rests.number };
 }

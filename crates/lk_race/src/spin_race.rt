@@ -1,16 +1,14 @@
 // A race for a spinlock with a value.
-ghost use Rattle.std.specs.Prelude.{◌≡◌, false};
+ghost use Rattle.std.specs.Prelude.{◌≤◌};
 ghost use Rattle.lk_abs.specs.declared.names.Kind.TheVariants.{Spin as spinning};
-ghost use Rattle.lk_domain.specs.Ends.{Rests};
-ghost use Rattle.lk_law.specs.Agree.{halts};
-ghost use Rattle.lk_lock.specs.Standing.{IsUnder};
+ghost use Rattle.lk_lock.specs.Families.{number_of, plan_of};
+ghost use Rattle.lk_lock.specs.Standing.{IsUnder, Rests};
 
 use crate::course::Course;
 use crate::track::{Track, ValueTrack};
 use crate::value::{Numbers, Value};
 use lk_abs::{Memory, Mode};
-use lk_domain::{Cpu, Domain};
-use lk_lock::{Seat, Spin};
+use lk_lock::{AnyCpu, AnyDomain, Seat, Spin};
 use std::alloc::Global;
 use std::sync::Wait;
 
@@ -30,30 +28,32 @@ pub enum Size {
 pub struct SpinRace {
     /// The lock family.
     pub mode: Mode,
+    /// In mode `pv`, how many turns a waiter spins before it halts, at least 1.
+    pub spins: u16,
     /// The size of the value.
     pub size: Size,
     /// What its threads do.
     pub course: Course,
-    ghost awake: { halts mode ≡ false },
+    ghost some: { 1 ≤ spins },
 }
 
 /// What the threads share: a lock with its value, and the domain of the lock.
 #[derive(Drop)]
 pub struct SpinTrack<'a, V> {
-    pub domain: &'a Domain,
+    pub domain: &'a AnyDomain,
     pub value: &'a Spin<V>,
-    ghost under: { IsUnder domain.now.plan spinning value.now.id.index
+    ghost under: { IsUnder (plan_of domain.now) spinning value.now.id.index
         value.now.cell.table.shared.table_id },
 }
 
 impl<V: Value> Track for SpinTrack<'_, V> {
-    type Cpu = Cpu;
+    type Cpu = AnyCpu;
 
     ghost rests = { λ track. Rests track.domain.now };
 
-    ghost number = { λ cpu. cpu.number };
+    ghost number = { number_of };
 
-    fn take_turns<R: Wait>(&self, rt: &R, cpu: &mut Cpu, turns: u32) {
+    fn take_turns<R: Wait>(&self, rt: &R, cpu: &mut AnyCpu, turns: u32) {
         let (domain, value) = (self.domain, self.value);
         for _ in 0..turns {
             let mut seat = Seat::new(rt, domain, cpu);
@@ -65,7 +65,7 @@ impl<V: Value> Track for SpinTrack<'_, V> {
 }
 
 impl<V: Value> ValueTrack for SpinTrack<'_, V> {
-    fn read<R: Wait>(&self, rt: &R, alloc: Global, cpu: &mut Cpu) -> Result<Numbers, Memory> {
+    fn read<R: Wait>(&self, rt: &R, alloc: Global, cpu: &mut AnyCpu) -> Result<Numbers, Memory> {
         let mut seat = Seat::new(rt, self.domain, cpu);
         seat.with(self.value, |value: &mut V| Numbers::of(value, alloc))
     }

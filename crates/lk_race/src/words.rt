@@ -6,7 +6,6 @@ use crate::bare_race::BareRace;
 use crate::course::Course;
 use crate::mutex_race::MutexRace;
 use crate::pv_bare_race::PvBareRace;
-use crate::pv_race::PvRace;
 use crate::rw_race::RwRace;
 use crate::spin_race::{Size, SpinRace};
 use lk_abs::{Kind, Mode};
@@ -28,8 +27,6 @@ pub enum Asked {
     Rw(RwRace),
     /// A race for a lock whose waiters halt, with nothing under it.
     PvBare(PvBareRace),
-    /// A race for a lock whose waiters halt, with a value.
-    Pv(PvRace),
 }
 
 // The mode that a word names, if waiters of that mode spin.
@@ -73,7 +70,8 @@ fn halting(kind: &str, spins: Option<u16>, course: Course) -> Option<Asked> {
         return Some(Asked::PvBare(PvBareRace { spins, course }));
     }
     let size = size_of(kind)?;
-    Some(Asked::Pv(PvRace {
+    Some(Asked::Spin(SpinRace {
+        mode: Mode::Pv,
         spins,
         size,
         course,
@@ -95,7 +93,12 @@ fn spinning(mode: &str, kind: &str, course: Course) -> Option<Asked> {
         return Some(Asked::Mutex(MutexRace { size, course }));
     }
     let mode = mode_of(mode)?;
-    Some(Asked::Spin(SpinRace { mode, size, course }))
+    Some(Asked::Spin(SpinRace {
+        mode,
+        spins: SPINS,
+        size,
+        course,
+    }))
 }
 
 /// The race for which the program's arguments ask. Returns `None` for other arguments, and if they

@@ -1,13 +1,14 @@
 // The locks of a program, each with its value and its rank.
-ghost use Rattle.std.specs.Prelude.{◌≡◌, ◌+◌, ◌<◌, ◌≤◌, [], IfOk, length, false, replicate};
+ghost use Rattle.std.specs.Prelude.{◌≡◌, ◌+◌, ◌<◌, ◌≤◌, [], IfOk, length, true, replicate};
 ghost use Rattle.lk_abs.specs.declared.names.Kind.TheVariants.{Rw as shared, Spin as spinning};
-ghost use Rattle.lk_domain.specs.Ends.{AllRest};
 ghost use Rattle.lk_domain.specs.Plans.{cpus_of};
 ghost use Rattle.lk_domain.specs.declared.plan.TheConstants.{MOST_CPUS, MOST_LOCKS};
 ghost use Rattle.lk_law.specs.Agree.{halts};
 ghost use Rattle.lk_lock.specs.Cells.{names_of};
-ghost use Rattle.lk_lock.specs.Made.{AreMade, AreSharedMade, IsAmong, IsPlanFor, IsSharedAmong};
-ghost use Rattle.lk_lock.specs.Made.{Keeps, KeepsShared};
+ghost use Rattle.lk_lock.specs.Families.{plan_of};
+ghost use Rattle.lk_lock.specs.Made.{AreMade, AreSharedMade, AreSpins, IsAmong, IsPlanFor};
+ghost use Rattle.lk_lock.specs.Made.{IsSharedAmong, Keeps, KeepsShared};
+ghost use Rattle.lk_lock.specs.Standing.{AllRest};
 
 use crate::rw::RankedRw;
 use crate::shared::RankedShared;
@@ -32,6 +33,7 @@ impl Ranks {
     pub fn new(alloc: Global, threads: u32) -> Result<Ranks, Memory>
         requires threads { (0 < threads) × (threads ≤ MOST_CPUS) }
         ensures none { IfOk result (λ ranks. ranks.locks.kinds.items ≡ []) }
+        ensures spins { IfOk result (λ ranks. AreSpins ranks.locks) }
         ensures threads { IfOk result (λ ranks. ranks.locks.threads ≡ threads) }
     {
         let locks = Locks::new(alloc, threads)?;
@@ -45,6 +47,13 @@ impl Ranks {
         self.locks.count() as u32
     }
 
+    /// Whether all of them are spinlocks. Then they may be opened as paravirtual ones too.
+    pub fn are_spins(&self) -> bool
+        ensures { result ≡ true → AreSpins self.now.locks }
+    {
+        self.locks.are_spins()
+    }
+
     /// One spinlock more, and what lies under it. It ranks above all that were made before.
     ///
     /// # Errors
@@ -54,6 +63,7 @@ impl Ranks {
         requires room { length self.old.locks.kinds.items < MOST_LOCKS }
         ensures kept { Keeps self.old.locks self.new.locks }
         ensures shared { KeepsShared self.old.locks self.new.locks }
+        ensures spins { AreSpins self.old.locks → AreSpins self.new.locks }
         ensures threads { self.new.locks.threads ≡ self.old.locks.threads }
         ensures made { IfOk result (λ lock. IsAmong self.new.locks spinning lock.spin.id.index
             lock.spin.cell.table.shared.table_id) }
@@ -78,6 +88,7 @@ impl Ranks {
         ensures above { IfOk result (λ lock. other < lock.spin.id.index) }
         ensures kept { Keeps self.old.locks self.new.locks }
         ensures shared { KeepsShared self.old.locks self.new.locks }
+        ensures spins { AreSpins self.old.locks → AreSpins self.new.locks }
         ensures threads { self.new.locks.threads ≡ self.old.locks.threads }
         ensures made { IfOk result (λ lock. IsAmong self.new.locks spinning lock.spin.id.index
             lock.spin.cell.table.shared.table_id) }
@@ -154,44 +165,45 @@ impl Ranks {
         Ok(RankedShared { shared, rank })
     }
 
-    /// The locks, all of this family, and a processor for each thread, all on socket 0. There is at
-    /// least one lock. In mode `cna` a moved waiter is passed by 16 handoffs at most.
+    /// The locks, all of this family, and a processor for each thread, as `Locks::open` of `lk_lock`
+    /// gives them. There is at least one lock, and in mode `pv` all are spinlocks.
     ///
     /// # Errors
     ///
     /// There is not enough memory. No value comes back.
     pub fn open(self, mode: Mode) -> Result<Open, Memory>
         requires some { 0 < length self.locks.kinds.items }
-        requires awake { halts mode ≡ false }
+        requires kinds { halts mode ≡ true → AreSpins self.locks }
         ensures plan { IfOk result (λ all. IsPlanFor self.locks mode
-            (replicate self.locks.threads 0) 16 all.domain.plan) }
-        ensures made { IfOk result (λ all. AreMade self.locks all.domain.plan) }
-        ensures shared { IfOk result (λ all. AreSharedMade self.locks all.domain.plan) }
+            (replicate self.locks.threads 0) 32768 (plan_of all.domain)) }
+        ensures made { IfOk result (λ all. AreMade self.locks (plan_of all.domain)) }
+        ensures shared { IfOk result (λ all. AreSharedMade self.locks (plan_of all.domain)) }
         ensures many { IfOk result (λ all. length all.cpus.items ≡ self.locks.threads) }
-        ensures each { IfOk result (λ all. length all.cpus.items ≡ cpus_of all.domain.plan) }
+        ensures each { IfOk result (λ all. length all.cpus.items ≡ cpus_of (plan_of all.domain)) }
         ensures rest { IfOk result (λ all. AllRest all.domain all.cpus.items) }
     {
         self.locks.open(mode)
     }
 
-    /// The same, with each processor on the socket that the topology lists for it. In mode `cna` a
-    /// lock is handed to a waiter on the holder's socket first.
+    /// The same, with each processor on the socket that the topology lists for it. In mode `pv` there are
+    /// no sockets, and a waiter spins for so many turns, at least 1, before it halts.
     ///
     /// # Errors
     ///
     /// There is not enough memory. No value comes back.
-    pub fn open_on(self, mode: Mode, topology: Topology) -> Result<Open, Memory>
+    pub fn open_on(self, mode: Mode, topology: Topology, turns: u16) -> Result<Open, Memory>
         requires some { 0 < length self.locks.kinds.items }
+        requires kinds { halts mode ≡ true → AreSpins self.locks }
         requires threads { length topology.sockets.items ≡ self.locks.threads }
-        requires awake { halts mode ≡ false }
-        ensures plan { IfOk result (λ all. IsPlanFor self.locks mode topology.sockets.items 16
-            all.domain.plan) }
-        ensures made { IfOk result (λ all. AreMade self.locks all.domain.plan) }
-        ensures shared { IfOk result (λ all. AreSharedMade self.locks all.domain.plan) }
+        requires turns { 0 < turns }
+        ensures plan { IfOk result (λ all. IsPlanFor self.locks mode topology.sockets.items turns
+            (plan_of all.domain)) }
+        ensures made { IfOk result (λ all. AreMade self.locks (plan_of all.domain)) }
+        ensures shared { IfOk result (λ all. AreSharedMade self.locks (plan_of all.domain)) }
         ensures many { IfOk result (λ all. length all.cpus.items ≡ self.locks.threads) }
-        ensures each { IfOk result (λ all. length all.cpus.items ≡ cpus_of all.domain.plan) }
+        ensures each { IfOk result (λ all. length all.cpus.items ≡ cpus_of (plan_of all.domain)) }
         ensures rest { IfOk result (λ all. AllRest all.domain all.cpus.items) }
     {
-        self.locks.open_on(mode, topology)
+        self.locks.open_on(mode, topology, turns)
     }
 }

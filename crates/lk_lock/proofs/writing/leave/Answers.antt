@@ -1,14 +1,5 @@
-use Rattle.std.proofs.Common.{length}
-use Rattle.lk_abs.specs.declared.holder.Manner.TheVariants.{Writes}
-use Rattle.lk_domain.specs.Seats.{calls_of}
-use Rattle.lk_lock.proofs.Steps.{as_before, none_out}
+use Rattle.std.proofs.Common.{rules}
 use Rattle.lk_lock.proofs.writing.leave.Goals as goal
 
-pub write_unlock-requires-clause-value : goal.write_unlock-requires-clause-value
-write_unlock-requires-clause-value c =
-    none_out c.args.id.index Writes c.requires.holding.0 c.args.cpu.now c.requires.holding.1
-
-pub returns-clause-before : goal.returns-clause-before
-returns-clause-before c b has =
-    as_before c.args.id.index Writes b c.args.cpu.now has c.write_unlock.new.cpu (length (calls_of c.args.cpu.now).frames)
-    c.write_unlock.ensures.rest.same c.write_unlock.ensures.left.left.holds
+pub leave_awake-requires-clause-holding : goal.leave_awake-requires-clause-holding
+leave_awake-requires-clause-holding c = (c.requires.holding.0, let has = c.requires.holding.1 in search rules)

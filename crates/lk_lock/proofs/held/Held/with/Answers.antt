@@ -1,51 +1,24 @@
-use Rattle.std.proofs.Common.{ℕ, refl, subst}
+use Rattle.std.proofs.Common.{refl}
 use Rattle.lk_abs.specs.declared.holder.Manner.TheVariants.{Spins}
-use Rattle.lk_domain.specs.Calls.{terms_of}
-use Rattle.lk_domain.specs.Paths.{HasTaken}
-use Rattle.lk_domain.specs.Seats.{calls_of}
-use Rattle.lk_rows.specs.declared.setup.Verb.TheVariants.{Lock}
-use Rattle.lk_lock.proofs.Steps.{at_home, by_lock, has_turned, still_holding, still_inside}
+use Rattle.lk_lock.proofs.Steps.{at_home, still_holding, still_inside}
 use Rattle.lk_lock.proofs.held.Held.with.Goals as goal
 
 pub work_under-done-requires-clause-held : goal.work_under-done-requires-clause-held
 work_under-done-requires-clause-held g c =
-    let d = c.args.self.now.domain.now in
-    let l = c.args.spin.now.id.index in
-    let old = c.args.self.now.cpu.now in
-    let mid = c.lock.new.cpu in
-    let has = by_lock d (terms_of d.plan) mid.number Lock l old mid c.requires.ready c.lock.ensures.rest c.lock.ensures.taken
-    c.requires.free in
-    at_home l Spins old mid has refl
+    at_home c.args.spin.now.id.index Spins c.args.self.now.cpu.now c.take.new.cpu c.take.ensures.holding refl
 
 pub free-requires-clause-holding : goal.free-requires-clause-holding
 free-requires-clause-holding g c =
-    let d = c.args.self.now.domain.now in
-    let l = c.args.spin.now.id.index in
-    let old = c.args.self.now.cpu.now in
-    let mid = c.lock.new.cpu in
-    let has = by_lock d (terms_of d.plan) mid.number Lock l old mid c.requires.ready c.lock.ensures.rest c.lock.ensures.taken
-    c.requires.free in
-    (old, still_holding l Spins old mid has c.work_under-done.new.cpu c.work_under-done.ensures.still)
+    let old = c.args.self.now.cpu.now in (
+      old,
+      still_holding c.args.spin.now.id.index Spins old c.take.new.cpu c.take.ensures.holding c.work_under-done.new.cpu
+          c.work_under-done.ensures.still,
+    )
 
 pub returns-clause-inside : goal.returns-clause-inside
 returns-clause-inside g c b i =
-    let d = c.args.self.now.domain.now in
-    let l = c.args.spin.now.id.index in
     let old = c.args.self.now.cpu.now in
-    let mid = c.lock.new.cpu in
-    let has = by_lock d (terms_of d.plan) mid.number Lock l old mid c.requires.ready c.lock.ensures.rest c.lock.ensures.taken
-    c.requires.free in
-    still_inside c.args.self.now.spin.now.id.index Spins b old c.free.new.cpu i
-    (c.free.ensures.before old (still_holding l Spins old mid has c.work_under-done.new.cpu c.work_under-done.ensures.still))
-
-pub returns-clause-path : goal.returns-clause-path
-returns-clause-path g c =
-    let d = c.args.self.now.domain.now in
-    let l = c.args.spin.now.id.index in
-    let old = c.args.self.now.cpu.now in
-    let mid = c.lock.new.cpu in
-    has_turned (terms_of d.plan) old.number Lock l (calls_of old) mid c.work_under-done.new.cpu (calls_of c.free.new.cpu)
-    c.work_under-done.ensures.still
-    (subst (λ (n : ℕ). HasTaken (terms_of d.plan) n Lock l Spins (calls_of old) (calls_of mid)) c.lock.ensures.rest.same.number
-    c.lock.ensures.taken)
-    c.lock.ensures.once c.free.ensures.freed
+    still_inside c.args.self.now.spin.now.id.index Spins b old i c.free.new.cpu
+    (c.free.ensures.before old
+    (still_holding c.args.spin.now.id.index Spins old c.take.new.cpu c.take.ensures.holding c.work_under-done.new.cpu
+    c.work_under-done.ensures.still))

@@ -1,0 +1,73 @@
+// What no clause says, in each family: that no addition to a value under a spinlock is lost, and that the
+// value comes back as it was left.
+ghost use Rattle.std.specs.Prelude.{◌≡◌, length};
+ghost use Rattle.lk_abs.specs.declared.names.Kind.TheVariants.{Spin as spinning};
+ghost use Rattle.lk_lock.specs.Families.{number_of, plan_of};
+ghost use Rattle.lk_lock.specs.Standing.{AllRest, IsUnder, Rests};
+
+use lk_abs::{List, Memory, Mode};
+use lk_lock::{AnyCpu, AnyDomain, Locks, Seat, Spin};
+use std::sync::Wait;
+use std::thread;
+use std::thread::Threads;
+
+// How often each of the threads adds one.
+const TURNS: u32 = 1_000;
+
+// All turns of a processor. Each adds one, at a try if nobody has the lock.
+fn take_turns<R: Wait>(rt: &R, domain: &AnyDomain, cpu: &mut AnyCpu, count: &Spin<u64>)
+    requires rests { Rests domain.now (number_of cpu.old) cpu.old }
+    requires count { IsUnder (plan_of domain.now) spinning count.now.id.index
+        count.now.cell.table.shared.table_id }
+    ensures rests { Rests domain.now (number_of cpu.old) cpu.new }
+{
+    for _ in 0..TURNS {
+        let mut seat = Seat::new(rt, domain, cpu);
+        let added = seat.try_turn(count, |count: &mut u64| *count = count.wrapping_add(1));
+        if added.is_none() {
+            seat.with(count, |count: &mut u64| *count = count.wrapping_add(1));
+        }
+    }
+}
+
+// The turns of all processors, each on a thread of its own.
+fn take_all_turns<R: Threads + Wait + Sync>(
+    rt: &R,
+    domain: &AnyDomain,
+    cpus: &mut List<AnyCpu>,
+    count: &Spin<u64>,
+)
+    requires rest { AllRest domain.now cpus.old.items }
+    requires count { IsUnder (plan_of domain.now) spinning count.now.id.index
+        count.now.cell.table.shared.table_id }
+    ensures many { length cpus.new.items ≡ length cpus.old.items }
+    ensures rest { AllRest domain.now cpus.new.items }
+{
+    thread::for_each_mut(
+        rt,
+        cpus.as_mut_slice(),
+        4,
+        &|_, cpu| { take_turns(rt, domain, cpu, count) },
+    );
+}
+
+// What four threads have counted.
+fn counted<R: Threads + Wait + Sync + AllocGlobal>(rt: &R, mode: Mode) -> Result<u64, Memory> {
+    let mut locks = Locks::new(rt.alloc(), 4)?;
+    let count = locks.spin(0u64)?;
+    let mut open = locks.open(mode)?;
+    take_all_turns(rt, &open.domain, &mut open.cpus, &count);
+    let Ok(mut keys) = open.close(rt.alloc()) else {
+        return Err(Memory);
+    };
+    Ok(count.into_value(&mut keys))
+}
+
+#[test]
+fn four_threads_count_in_each_family(rt: HostRuntime) -> Result<(), Memory> {
+    assert_eq!(rt; counted(&rt, Mode::Virt)?, 4 * u64::from(TURNS));
+    assert_eq!(rt; counted(&rt, Mode::Native)?, 4 * u64::from(TURNS));
+    assert_eq!(rt; counted(&rt, Mode::Cna)?, 4 * u64::from(TURNS));
+    assert_eq!(rt; counted(&rt, Mode::Pv)?, 4 * u64::from(TURNS));
+    Ok(())
+}
