@@ -6,7 +6,7 @@ use Rattle.lk_abs.specs.Journal.{Replays}
 use Rattle.lk_domain.specs.Keeps.{IsPast, ArePast}
 use Rattle.lk_domain.specs.Ledgers.{Ledger, Past}
 use Rattle.lk_domain.specs.Plans.{cpus_of}
-use Rattle.lk_domain.specs.Seats.{IsOf, calls_of, ledger_of, view_of}
+use Rattle.lk_domain.specs.Seats.{IsIn, calls_of, ledger_of, view_of}
 use Rattle.lk_domain.specs.Views.{newcomer, all_past}
 use Rattle.lk_domain.specs.declared.cpu.Cpu.{Cpu}
 use Rattle.lk_domain.specs.declared.domain.Domain.{Domain}
@@ -23,7 +23,7 @@ past_at i g = record { number = i; own = g.own; looks = g.looks; seen = g.seen }
 
 -- the processor i of the domain, which holds nothing and waits for nothing
 pub record Rests (domain : Domain) (i : ℕ) (cpu : Cpu) : Type 0 where
-  pub domain_is : IsOf cpu domain
+  pub domain_is : IsIn cpu domain
   pub number : cpu.number ≡ i
   pub who : (view_of cpu).who ≡ newcomer domain.plan i
   pub frames : (calls_of cpu).frames ≡ []

@@ -32,7 +32,13 @@ calls_of cpu = cpu.seat.me.0.calls
 abbrev pub ledger_of : Cpu → Ledger
 ledger_of cpu = cpu.seat.me.0.ledger
 
--- the processor is one of the domain, whose family halts none
+-- the processor is one of the domain
+pub record IsIn (cpu : Cpu) (domain : Domain) : Type 0 where
+  pub table : cpu.seat.table_id ≡ domain.table.shared.table_id
+  pub plan : cpu.seat.me.0.who.plan ≡ domain.plan
+  pub low : cpu.number < cpus_of domain.plan
+
+-- it is one of the domain, and the domain's family halts none
 pub record IsOf (cpu : Cpu) (domain : Domain) : Type 0 where
   pub table : cpu.seat.table_id ≡ domain.table.shared.table_id
   pub plan : cpu.seat.me.0.who.plan ≡ domain.plan
@@ -61,7 +67,7 @@ MadeFrom At l old met new = (verb : Verb) → At verb (view_of old) → Made ver
 
 -- the processor of this number, of a new domain
 pub record IsDealt (domain : Domain) (i : ℕ) (cpu : Cpu) : Type 0 where
-  pub domain_is : IsOf cpu domain
+  pub domain_is : IsIn cpu domain
   pub number : cpu.number ≡ i
   pub who : cpu.seat.me.0.who ≡ newcomer domain.plan i
   pub calls : calls_of cpu ≡ no_calls

@@ -3,6 +3,7 @@ ghost use Rattle.std.specs.Prelude.{◌≡◌, ◌+◌, ◌<◌, Some, slice_get
 ghost use Rattle.lk_domain.specs.Plans.{cpus_of, locks_of, accounts_of, layout_in, IsRunningPlan};
 ghost use Rattle.lk_domain.specs.Values.{homes_of};
 ghost use Rattle.lk_domain.specs.Words.{words_of};
+ghost use Rattle.lk_law.specs.Agree.{halts};
 
 use crate::plan::{MOST_LOCKS, Plan};
 use crate::rule::Order;
@@ -39,6 +40,17 @@ impl Domain {
         ensures { result ≡ self.now.plan.mode }
     {
         self.plan.mode
+    }
+
+    /// Whether its waiters halt: whether its mode is `pv`.
+    #[inline]
+    pub fn halts(&self) -> bool
+        ensures { result ≡ halts self.now.plan.mode }
+    {
+        match self.plan.mode {
+            Mode::Virt | Mode::Native | Mode::Cna => false,
+            Mode::Pv => true,
+        }
     }
 
     /// Its format.

@@ -66,6 +66,23 @@ impl Plan {
         }
     }
 
+    // What a processor notes that has done nothing. Where waiters halt a processor keeps no notes, and
+    // there they take no memory.
+    //
+    // # Errors
+    //
+    // There is not enough memory.
+    fn no_notes(&self, alloc: Global) -> Result<Notes, Memory>
+        requires { IsRunningPlan self.now }
+        ensures { IfOk result (λ notes. halts self.now.mode ≡ false
+            → IsNoted notes (locks_of self.now) no_calls) }
+    {
+        match self.mode {
+            Mode::Virt | Mode::Native | Mode::Cna => Notes::new(alloc, self.locks.len()),
+            Mode::Pv => Notes::new(alloc, 0),
+        }
+    }
+
     /// The number of entries that all processors together may write.
     pub fn room(&self) -> usize
         requires { IsRunningPlan self.now }
@@ -175,11 +192,31 @@ impl Domain {
     {
         let mut whole = plan.copied(alloc)?;
         whole.cells = Some(Snapshot::of(&keys));
-        let (domain, mut seat) = Domain::rest(alloc, whole, keys)?;
+        Domain::open(alloc, whole, keys)
+    }
+
+    /// A domain of this plan, of whichever lock family, in which nobody holds a lock, and its
+    /// processors in the order of their numbers. The keys are those that the plan names.
+    ///
+    /// # Errors
+    ///
+    /// There is not enough memory. The keys are gone, and each value goes with its cell.
+    pub fn open(
+        alloc: Global,
+        plan: Plan,
+        keys: List<Option<Key>>,
+    ) -> Result<(Domain, List<Cpu>), Memory>
+        requires lawful { IsRunningPlan plan }
+        requires laid { AreLaid plan keys.items }
+        ensures plan { IfOk result (λ made. made.0.plan ≡ plan) }
+        ensures many { IfOk result (λ made. length made.1.items ≡ cpus_of plan) }
+        ensures cpus { IfOk result (λ made. AreDealt made.0 made.1.items) }
+    {
+        let (domain, mut seat) = Domain::rest(alloc, plan, keys)?;
         let count = domain.plan.topology.sockets.len();
         let mut cpus = List::new(alloc, count)?;
         for number in 0..count as u32 {
-            let notes = Notes::new(alloc, domain.plan.locks.len())?;
+            let notes = domain.plan.no_notes(alloc)?;
             cpus.push(domain.deal(&mut seat, number, notes));
         }
         Ok((domain, cpus))
@@ -207,9 +244,9 @@ impl Domain {
     fn deal(&self, seat: &mut Right, number: u32, notes: Notes) -> Cpu
         requires table { seat.old.table_id ≡ self.now.table.shared.table_id }
         requires low { number < cpus_of self.now.plan }
-        requires awake { halts self.now.plan.mode ≡ false }
         requires dealer { seat.old.me.0 ≡ view (dealer self.now.plan number) no_calls no_ledger }
-        requires notes { IsNoted notes (locks_of self.now.plan) no_calls }
+        requires notes { halts self.now.plan.mode ≡ false
+            → IsNoted notes (locks_of self.now.plan) no_calls }
         ensures table { seat.new.table_id ≡ seat.old.table_id }
         ensures dealer { seat.new.me.0
             ≡ view (dealer self.now.plan (number + 1)) no_calls no_ledger }

@@ -16,10 +16,13 @@ impl Debug for Domain {
 
 impl Debug for Cpu {
     fn fmt<W: Write>(&self, f: &mut Formatter<W>) -> Result {
-        f.debug_struct("Cpu")
-            .field("number", &self.number())
-            .field("depth", &self.depth())
-            .field("queued", &self.queued())
-            .finish_non_exhaustive()
+        let mut shown = f.debug_struct("Cpu");
+        shown.field("number", &self.number);
+        // Where the family halts a processor has no notes.
+        if self.notes.locks != 0 {
+            shown.field("depth", &self.notes.depth);
+            shown.field("queued", &self.notes.queued);
+        }
+        shown.finish_non_exhaustive()
     }
 }

@@ -8,7 +8,7 @@ ghost use Rattle.lk_cell.specs.Work.{HasWorked, KeepsFit};
 ghost use Rattle.lk_domain.specs.Plans.{IsRunningPlan, cpus_of, locks_of};
 ghost use Rattle.lk_domain.specs.Plays.{carried_of};
 ghost use Rattle.lk_domain.specs.Seated.{IsSeatOf, IsTableOf};
-ghost use Rattle.lk_domain.specs.Seats.{BringsValueOf, IsOf, IsStill, TakesValueOf};
+ghost use Rattle.lk_domain.specs.Seats.{BringsValueOf, IsIn, IsStill, TakesValueOf};
 ghost use Rattle.lk_domain.specs.Seats.{calls_of, ledger_of, view_of};
 ghost use Rattle.lk_domain.specs.declared.slot.Stowed.TheVariants.{CellKey};
 ghost use Rattle.lk_domain.specs.Values.{HasCell, IsClear, IsHomeAt, IsHomeWith, IsKeyOf, IsNewestAt};
@@ -150,7 +150,7 @@ pub fn with_key<U, W: FnOnce(&mut Key) -> U>(
     lock: LockId,
     work: W,
 ) -> U
-    requires domain { IsOf cpu.old domain.now }
+    requires domain { IsIn cpu.old domain.now }
     requires lock { lock.index < locks_of domain.now.plan }
     requires valued { HasCell domain.now.plan lock.index }
     requires held { IsHomeWith lock.index (calls_of cpu.old).holds }
@@ -173,7 +173,7 @@ pub fn with_copy<U, W: FnOnce(&mut Key) -> U>(
     number: u32,
     work: W,
 ) -> U
-    requires domain { IsOf cpu.old domain.now }
+    requires domain { IsIn cpu.old domain.now }
     requires lock { lock.index < locks_of domain.now.plan }
     requires number { number < cpus_of domain.now.plan }
     requires valued { HasCell domain.now.plan (copy_at domain.now.plan lock.index number) }
@@ -192,7 +192,7 @@ pub fn with_copy<U, W: FnOnce(&mut Key) -> U>(
 /// Takes the value of a lock out: the key of its cell. The processor must hold the lock alone, as a
 /// spinlock or as the writer, and frees it again only after the value is home.
 pub fn take_out(cpu: &mut Cpu, domain: &Domain, lock: LockId) -> Key
-    requires domain { IsOf cpu.old domain.now }
+    requires domain { IsIn cpu.old domain.now }
     requires lock { lock.index < locks_of domain.now.plan }
     requires valued { HasCell domain.now.plan lock.index }
     requires held { IsHomeWith lock.index (calls_of cpu.old).holds }
@@ -206,7 +206,7 @@ pub fn take_out(cpu: &mut Cpu, domain: &Domain, lock: LockId) -> Key
 
 /// Brings it home: the value that the processor took out last.
 pub fn bring_home(cpu: &mut Cpu, domain: &Domain, lock: LockId, key: Key)
-    requires domain { IsOf cpu.old domain.now }
+    requires domain { IsIn cpu.old domain.now }
     requires lock { lock.index < locks_of domain.now.plan }
     requires valued { HasCell domain.now.plan lock.index }
     requires newest { IsNewestAt domain.now.plan lock.index lock.index (outs_of (view_of cpu.old)) }

@@ -31,6 +31,7 @@ use Rattle.lk_domain.specs.declared.cpu.Cpu.{Cpu}
 use Rattle.lk_domain.specs.declared.domain.Domain.{Domain}
 use Rattle.lk_domain.specs.declared.plan.Plan.{Plan}
 use Rattle.lk_domain.proofs.Freed.{not_unlocking, released}
+use Rattle.lk_domain.proofs.Seating.{apart_of}
 use Rattle.lk_domain.proofs.Turned.{is_taking}
 use Rattle.lk_run.specs.Entering.{HasLeft, Leaves}
 use Rattle.lk_run.specs.Standing.{Outside, IsOn}
@@ -140,7 +141,7 @@ acts_leaving reader kind is d l a of few held rw =
           frame = begun (view_of a).who.plan.mode (length (calls_of a).frames) RUnlock l;
           trail = [];
           rest = (calls_of a).frames;
-          is = ap (λ b. (if b then calls_of a else begin (view_of a).who.plan.mode (calls_of a) RUnlock l).frames) (not_unlocking RUnlock refl (calls_of a).frames l a.apart);
+          is = ap (λ b. (if b then calls_of a else begin (view_of a).who.plan.mode (calls_of a) RUnlock l).frames) (not_unlocking RUnlock refl (calls_of a).frames l (apart_of a d of));
           place = refl;
           lock = refl;
         };
@@ -157,7 +158,7 @@ acts_leaving writer kind is d l a of few held rw =
           frame = begun (view_of a).who.plan.mode (length (calls_of a).frames) WUnlock l;
           trail = [];
           rest = (calls_of a).frames;
-          is = ap (λ b. (if b then calls_of a else begin (view_of a).who.plan.mode (calls_of a) WUnlock l).frames) (not_unlocking WUnlock refl (calls_of a).frames l a.apart);
+          is = ap (λ b. (if b then calls_of a else begin (view_of a).who.plan.mode (calls_of a) WUnlock l).frames) (not_unlocking WUnlock refl (calls_of a).frames l (apart_of a d of));
           place = refl;
           lock = refl;
         };
@@ -181,9 +182,9 @@ closes : {v : Verb} {c : Pc} {m : Manner} → Lets v c m → (terms : Terms) (p 
 closes reader terms p old l y g = refl
 closes writer terms p old l y g = refl
 
-pub leaves : {v : Verb} {c : Pc} {m : Manner} → Lets v c m → (l : ℕ) (a b : Cpu) {met : ℕ}
-    → SharedBy v l a.seat.me met b.seat.me → Leaves c l a b
-leaves {v} {c} lets l a b made =
+pub leaves : {v : Verb} {c : Pc} {m : Manner} → Lets v c m → (d : Domain) (l : ℕ) (a b : Cpu) {met : ℕ}
+    → IsOf a d → SharedBy v l a.seat.me met b.seat.me → Leaves c l a b
+leaves {v} {c} lets d l a b of made =
     let terms = terms_of (view_of a).who.plan in
     let mode = terms.mode in
     let p = own_number (view_of a).who.number in
@@ -200,8 +201,8 @@ leaves {v} {c} lets l a b made =
     }
   where
     unlocks : {v : Verb} {c : Pc} {m : Manner} → Lets v c m → (l : ℕ) → is_on (calls_of a).frames v l ≡ false
-    unlocks reader l = not_unlocking RUnlock refl (calls_of a).frames l a.apart
-    unlocks writer l = not_unlocking WUnlock refl (calls_of a).frames l a.apart
+    unlocks reader l = not_unlocking RUnlock refl (calls_of a).frames l (apart_of a d of)
+    unlocks writer l = not_unlocking WUnlock refl (calls_of a).frames l (apart_of a d of)
 
 -- what is asked of a try that goes on
 pub acts_try : (d : Domain) (v : Verb) (l : ℕ) (c : Pc) (a : Cpu) (old : Calls) → WaitsAt d v l c old a → takes_wait v ≡ false

@@ -1,8 +1,9 @@
 -- What a processor's type says, after a step on the ledger.
-use Rattle.std.proofs.Common.{◌≡◌, ℕ, List, ◌∷◌, ◌++◌, length, drop, Some, true}
+use Rattle.std.proofs.Common.{◌≡◌, ℕ, List, ◌∷◌, ◌++◌, length, drop, Some, true, false}
 use Rattle.std.proofs.Common.{refl, sym, ap, ◌∙◌, subst}
 use Rattle.atomic_table.specs.Table.{Me, Step}
 use Rattle.lk_abs.specs.declared.ledger.Entry.{Entry}
+use Rattle.lk_law.specs.Agree.{halts}
 use Rattle.lk_domain.specs.Calls.{Calls, are_calls}
 use Rattle.lk_domain.specs.Keeps.{Slot}
 use Rattle.lk_domain.specs.Ledgers.{Ledger, Out, brought}
@@ -18,11 +19,18 @@ use Rattle.lk_domain.proofs.journals.Grown.{drop_front}
 
 -- while it keeps its calls
 module _ (old new : Calls) (same : new ≡ old) where
-  pub noted : {n : Notes} (a b : Who) → b ≡ a → IsNoted n (locks_of a.plan) old → IsNoted n (locks_of b.plan) new
-  noted {n} a b who h = subst (λ (w : Who). IsNoted n (locks_of w.plan) new) (sym who) (subst (λ (c : Calls). IsNoted n (locks_of a.plan) c) (sym same) h)
+  module _ (a b : Who) (who : b ≡ a) where
+    awake : halts b.plan.mode ≡ false → halts a.plan.mode ≡ false
+    awake on = sym (ap (λ (w : Who). halts w.plan.mode) who) ∙ on
 
-  pub apart : are_calls old.frames ≡ true → are_calls new.frames ≡ true
-  apart h = ap (λ (c : Calls). are_calls c.frames) same ∙ h
+    pub noted : {n : Notes} → (halts a.plan.mode ≡ false → IsNoted n (locks_of a.plan) old)
+        → halts b.plan.mode ≡ false → IsNoted n (locks_of b.plan) new
+    noted {n} h on = subst (λ (w : Who). IsNoted n (locks_of w.plan) new) (sym who)
+        (subst (λ (c : Calls). IsNoted n (locks_of a.plan) c) (sym same) (h (awake on)))
+
+    pub apart : (halts a.plan.mode ≡ false → are_calls old.frames ≡ true)
+        → halts b.plan.mode ≡ false → are_calls new.frames ≡ true
+    apart h on = ap (λ (c : Calls). are_calls c.frames) same ∙ h (awake on)
 
 -- a seat whose ledger alone changed
 module _ (m n : Me Slot View) (g : Ledger) (e : n ≡ (record m.0 { ledger = g }, m.1)) where

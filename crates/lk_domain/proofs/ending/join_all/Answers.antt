@@ -5,7 +5,7 @@ use Rattle.lk_domain.specs.Views.{all_past}
 use Rattle.lk_domain.specs.Who.{Who}
 use Rattle.lk_domain.specs.declared.cpu.Cpu.{Cpu}
 use Rattle.lk_domain.specs.declared.view.View.{View}
-use Rattle.lk_domain.proofs.Seating.{table_of, seat_of}
+use Rattle.lk_domain.proofs.Seating.{table_of, seat_in}
 use Rattle.lk_domain.proofs.journals.Heirs.{first_heir, next_heir, popped, last_popped, popped_is}
 use Rattle.lk_domain.proofs.ending.join_all.Goals as goal
 
@@ -21,7 +21,7 @@ loop-cpus-init c =
     record {
       rest = t.front;
       few = few;
-      seat = seat_of u d r.domain_is;
+      seat = seat_in u d r.domain_is;
       home = r.home;
       holds = r.holds;
       has = first_heir view_of d.plan all (length new.items) u (λ i x lt. (c.requires.rest i x lt).who) t.long t.item;
@@ -40,7 +40,7 @@ join-requires c =
     record {
       table = table_of d;
       seat = inv.seat;
-      other = seat_of u d r.domain_is;
+      other = seat_in u d r.domain_is;
       rests = record { frames = r.frames; holds = r.holds; home = r.home };
       none = ap (λ (w : Who). w.outs) r.who;
     }

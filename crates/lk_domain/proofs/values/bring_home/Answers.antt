@@ -1,10 +1,11 @@
-use Rattle.std.proofs.Common.{ℕ, refl, sym, ap, ◌∙◌, subst, false}
+use Rattle.std.proofs.Common.{◌≡◌, ℕ, refl, sym, ap, ◌∙◌, subst, false}
+use Rattle.lk_law.specs.Agree.{halts}
 use Rattle.lk_domain.specs.Calls.{are_calls}
 use Rattle.lk_domain.specs.Marked.{IsNoted}
 use Rattle.lk_domain.specs.Plans.{locks_of}
 use Rattle.lk_domain.specs.Values.{IsNewestAt, bringing, lock_of}
 use Rattle.lk_domain.specs.declared.view.View.{View}
-use Rattle.lk_domain.proofs.Seating.{table_of, seat_of}
+use Rattle.lk_domain.proofs.Seating.{table_of, seat_in}
 use Rattle.lk_domain.proofs.seats.Homes.{own_lock}
 use Rattle.lk_domain.proofs.seats.Marks.{mark_noted}
 use Rattle.lk_domain.proofs.values.bring_home.Goals as goal
@@ -14,7 +15,7 @@ bring-requires c =
     let d = c.args.domain.now in
     record {
       table = table_of d;
-      seat = seat_of c.args.cpu.now d c.requires.domain;
+      seat = seat_in c.args.cpu.now d c.requires.domain;
       valued = c.requires.valued;
       newest = subst (λ (x : ℕ). IsNewestAt d.plan x c.args.lock.index c.args.cpu.now.seat.me.0.who.outs)
           (sym (own_lock d.plan c.args.lock.index c.requires.lock)) c.requires.newest;
@@ -27,11 +28,13 @@ invariant_of-cpu c =
     let cpu = c.args.cpu.now in
     let view = c.bring.ensures.view in
     let l = lock_of c.args.domain.now.plan c.args.lock.index in
+    let awake : halts c.bring.new.seat.me.0.who.plan.mode ≡ false → halts cpu.seat.me.0.who.plan.mode ≡ false =
+    (λ on. sym (ap (λ (v : View). halts v.who.plan.mode) view) ∙ on) in
     record {
       numbered = ap (λ (v : View). v.who.number) view ∙ cpu.numbered;
-      noted = subst (λ (v : View). IsNoted cpu.notes (locks_of v.who.plan) v.calls) (sym view)
-          (mark_noted cpu.notes (locks_of cpu.seat.me.0.who.plan) cpu.seat.me.0.calls l false cpu.noted);
-      apart = ap (λ (v : View). are_calls v.calls.frames) view ∙ cpu.apart;
+      noted = λ on. subst (λ (v : View). IsNoted cpu.notes (locks_of v.who.plan) v.calls) (sym view)
+          (mark_noted cpu.notes (locks_of cpu.seat.me.0.who.plan) cpu.seat.me.0.calls l false (cpu.noted (awake on)));
+      apart = λ on. ap (λ (v : View). are_calls v.calls.frames) view ∙ cpu.apart (awake on);
       carried = c.bring.ensures.carried;
     }
 

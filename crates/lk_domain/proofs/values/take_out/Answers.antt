@@ -1,11 +1,12 @@
-use Rattle.std.proofs.Common.{◌≡◌, ℕ, refl, sym, ap, ◌∙◌, subst, true}
+use Rattle.std.proofs.Common.{◌≡◌, ℕ, refl, sym, ap, ◌∙◌, subst, true, false}
+use Rattle.lk_law.specs.Agree.{halts}
 use Rattle.lk_domain.specs.Calls.{are_calls}
 use Rattle.lk_domain.specs.Marked.{IsNoted}
 use Rattle.lk_domain.specs.Plans.{locks_of}
 use Rattle.lk_domain.specs.Values.{IsClear, lock_of, taking}
 use Rattle.lk_domain.specs.declared.plan.Plan.{Plan}
 use Rattle.lk_domain.specs.declared.view.View.{View}
-use Rattle.lk_domain.proofs.Seating.{table_of, seat_of}
+use Rattle.lk_domain.proofs.Seating.{table_of, seat_in}
 use Rattle.lk_domain.proofs.seats.Homes.{alone_at, own_lock}
 use Rattle.lk_domain.proofs.seats.Marks.{mark_noted}
 use Rattle.lk_domain.proofs.values.take_out.Goals as goal
@@ -16,7 +17,7 @@ take-requires c =
     let cpu = c.args.cpu.now in
     record {
       table = table_of d;
-      seat = seat_of cpu d c.requires.domain;
+      seat = seat_in cpu d c.requires.domain;
       valued = c.requires.valued;
       held = alone_at d.plan c.args.lock.index cpu.seat.me.0 c.requires.lock c.requires.held;
       journal = c.requires.home;
@@ -27,11 +28,13 @@ invariant_of-cpu c =
     let cpu = c.args.cpu.now in
     let view = c.take.ensures.view in
     let l = lock_of c.args.domain.now.plan c.args.lock.index in
+    let awake : halts c.take.new.seat.me.0.who.plan.mode ≡ false → halts cpu.seat.me.0.who.plan.mode ≡ false =
+    (λ on. sym (ap (λ (v : View). halts v.who.plan.mode) view) ∙ on) in
     record {
       numbered = ap (λ (v : View). v.who.number) view ∙ cpu.numbered;
-      noted = subst (λ (v : View). IsNoted cpu.notes (locks_of v.who.plan) v.calls) (sym view)
-          (mark_noted cpu.notes (locks_of cpu.seat.me.0.who.plan) cpu.seat.me.0.calls l true cpu.noted);
-      apart = ap (λ (v : View). are_calls v.calls.frames) view ∙ cpu.apart;
+      noted = λ on. subst (λ (v : View). IsNoted cpu.notes (locks_of v.who.plan) v.calls) (sym view)
+          (mark_noted cpu.notes (locks_of cpu.seat.me.0.who.plan) cpu.seat.me.0.calls l true (cpu.noted (awake on)));
+      apart = λ on. ap (λ (v : View). are_calls v.calls.frames) view ∙ cpu.apart (awake on);
       carried = c.take.ensures.carried;
     }
 

@@ -9,4 +9,4 @@ subtract_bias-requires-clause-row c =
     try.acts_leaving try.reader (quits_by RUnlock) refl c.args.domain.now c.args.lock.index c.args.cpu.now c.requires.domain c.requires.few c.requires.held c.requires.kind
 
 pub returns-clause-left : goal.returns-clause-left
-returns-clause-left c = try.leaves try.reader c.args.lock.index c.args.cpu.now c.subtract_bias.new.cpu c.subtract_bias.ensures.step.by
+returns-clause-left c = try.leaves try.reader c.args.domain.now c.args.lock.index c.args.cpu.now c.subtract_bias.new.cpu c.requires.domain c.subtract_bias.ensures.step.by

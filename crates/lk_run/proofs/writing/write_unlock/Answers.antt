@@ -9,4 +9,4 @@ writer_release-requires-clause-row c =
     try.acts_leaving try.writer (leaves_by WUnlock) refl c.args.domain.now c.args.lock.index c.args.cpu.now c.requires.domain c.requires.few c.requires.held c.requires.kind
 
 pub returns-clause-left : goal.returns-clause-left
-returns-clause-left c = try.leaves try.writer c.args.lock.index c.args.cpu.now c.writer_release.new.cpu c.writer_release.ensures.step.by
+returns-clause-left c = try.leaves try.writer c.args.domain.now c.args.lock.index c.args.cpu.now c.writer_release.new.cpu c.requires.domain c.writer_release.ensures.step.by

@@ -1,6 +1,7 @@
 use Rattle.std.proofs.Common.{sym, ap, arith, ◌∙◌, [], Some, subst}
 use mathlib.Core.Option.{none}
 use Rattle.atomic_table.specs.Table.{step, Me}
+use Rattle.lk_law.specs.Agree.{halts}
 use Rattle.lk_domain.specs.Calls.{no_calls, are_calls}
 use Rattle.lk_domain.specs.Keeps.{Slot}
 use Rattle.lk_domain.specs.Marked.{IsNoted}
@@ -44,9 +45,10 @@ invariant_of-result c =
     let few = d.lawful.cpus in
     record {
       numbered = ap (λ (v : View). v.who.number) at ∙ (ap (λ (v : View). Some (Rattle.lk_domain.specs.Views.own_number v.who.number)) t.1 ∙ (let z = t.0 in let y = c.requires.low in ap Some (omega arith)));
-      noted = subst (λ (v : View). IsNoted c.args.notes (locks_of v.who.plan) v.calls) (sym at)
-          (subst (λ (k : Plan). IsNoted c.args.notes (locks_of k) no_calls) (sym (ap (λ (v : View). v.who.plan) t.1)) c.requires.notes);
-      apart = ap (λ (x : Rattle.lk_domain.specs.Calls.Calls). are_calls x.frames) calls;
+      noted = λ on. subst (λ (v : View). IsNoted c.args.notes (locks_of v.who.plan) v.calls) (sym at)
+          (subst (λ (k : Plan). IsNoted c.args.notes (locks_of k) no_calls) (sym (ap (λ (v : View). v.who.plan) t.1))
+          (c.requires.notes (sym (ap (λ (v : View). halts v.who.plan.mode) at ∙ ap (λ (v : View). halts v.who.plan.mode) t.1) ∙ on)));
+      apart = λ _. ap (λ (x : Rattle.lk_domain.specs.Calls.Calls). are_calls x.frames) calls;
       carried = ap (λ (x : Me Slot View). x.1) c.split_seat-seat.ensures.4 ∙ sym (ap carried_of at ∙ ap (λ (v : View). carried_with [] v.ledger.out) t.1);
     }
 
@@ -68,7 +70,6 @@ returns-clause-cpu c =
         table = c.split_seat-seat.ensures.3 ∙ (c.fetch_add-number.ensures.0 ∙ c.requires.table);
         plan = ap (λ (v : View). v.who.plan) at ∙ ap (λ (v : View). v.who.plan) t.1;
         low = (let z = t.0 in let y = c.requires.low in omega arith);
-        awake = c.requires.awake;
       };
       number = (let z = t.0 in let y = c.requires.low in omega arith);
       who = ap (λ (v : View). v.who) at ∙ ap (λ (v : View). Rattle.lk_domain.specs.Views.newcomer v.who.plan (Rattle.lk_domain.specs.Views.own_number v.who.number)) t.1;

@@ -23,7 +23,7 @@ invariant_of-cpu c =
     record {
       numbered = ap (λ (w : Who). w.number) kept.who ∙ cpu.numbered;
       noted = told.noted old new kept.calls cpu.seat.me.0.who c.journal_out.new.seat.me.0.who kept.who cpu.noted;
-      apart = told.apart old new kept.calls cpu.apart;
+      apart = told.apart old new kept.calls cpu.seat.me.0.who c.journal_out.new.seat.me.0.who kept.who cpu.apart;
       carried = c.journal_out.ensures.seat.carried;
     }
 

@@ -22,7 +22,7 @@ invariant_of-cpu c =
     record {
       numbered = ap (λ (w : Who). w.number) kept.who ∙ cpu.numbered;
       noted = told.noted old new kept.calls cpu.seat.me.0.who c.version.new.seat.me.0.who kept.who cpu.noted;
-      apart = told.apart old new kept.calls cpu.apart;
+      apart = told.apart old new kept.calls cpu.seat.me.0.who c.version.new.seat.me.0.who kept.who cpu.apart;
       carried = c.version.ensures.seat.carried;
     }
 

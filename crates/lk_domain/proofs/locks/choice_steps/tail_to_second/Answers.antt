@@ -3,6 +3,7 @@ use Rattle.lk_domain.proofs.turns.Carried as row
 use Rattle.lk_domain.proofs.turns.Noted.{stays}
 use Rattle.lk_domain.proofs.turns.Stepped as stepped
 use Rattle.lk_domain.specs.Plans.{locks_of}
+use Rattle.lk_domain.proofs.Seating.{apart_of, noted_of}
 use Rattle.lk_domain.proofs.locks.choice_steps.tail_to_second.Goals as goal
 
 pub returns-clause-rest : goal.returns-clause-rest
@@ -24,6 +25,8 @@ returns-clause-step c verb at = record { by = c.tail_to_second.ensures.step verb
 pub invariant_of-cpu : goal.invariant_of-cpu
 invariant_of-cpu c =
     let cpu = c.args.cpu.now in
+    let noted = noted_of cpu c.args.domain.now c.requires.domain in
+    let apart = apart_of cpu c.args.domain.now c.requires.domain in
     let l = c.args.lock in
     let v = c.requires.row.0 in
     let at = c.requires.row.1 in
@@ -31,11 +34,11 @@ invariant_of-cpu c =
     let n = c.tail_to_second.new.seat.me in
     let met = c.tail_to_second.result in
     let made = c.tail_to_second.ensures.step v at in
-    let t = stepped.promotes v l met m n made cpu.apart cpu.noted.few at.acts in
+    let t = stepped.promotes v l met m n made apart noted.few at.acts in
     record {
       numbered = row.numbered v l.index met m n made cpu.numbered;
-      noted = row.noted v l.index met m n made
-          (stays cpu.notes (locks_of m.0.who.plan) m.0.calls n.0.calls l.index _ cpu.noted t.steps (t.on refl) t.was);
-      apart = t.apart;
+      noted = λ _. row.noted v l.index met m n made
+          (stays cpu.notes (locks_of m.0.who.plan) m.0.calls n.0.calls l.index _ noted t.steps (t.on refl) t.was);
+      apart = λ _. t.apart;
       carried = row.carried v l.index met m n made cpu.carried;
     }

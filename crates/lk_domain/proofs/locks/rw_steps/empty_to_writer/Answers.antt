@@ -2,7 +2,7 @@ use Rattle.lk_domain.specs.Calls.{waits_in}
 use Rattle.lk_domain.specs.RwRows.{seizes_at, seizes_by}
 use Rattle.lk_domain.proofs.rw.Stepped as stepped
 use Rattle.lk_domain.specs.Plans.{locks_of}
-use Rattle.lk_domain.proofs.Seating.{low_of}
+use Rattle.lk_domain.proofs.Seating.{low_of, apart_of, noted_of}
 use Rattle.lk_domain.proofs.locks.rw_steps.empty_to_writer.Goals as goal
 
 pub act_by-met-requires-clause-row : goal.act_by-met-requires-clause-row
@@ -16,6 +16,8 @@ act_by-met-requires-clause-row c =
 pub step-requires : goal.step-requires
 step-requires c =
     let cpu = c.args.cpu.now in
+    let noted = noted_of cpu c.args.domain.now c.requires.domain in
+    let apart = apart_of cpu c.args.domain.now c.requires.domain in
     let m = cpu.seat.me in
     let n = c.act_by-met.new.seat.me in
     let v = c.args.verb in
@@ -28,15 +30,17 @@ step-requires c =
         locks_of m.0.who.plan,
         m.0.calls,
         n.0.calls,
-        cpu.noted,
+        noted,
         low_of cpu c.args.domain.now c.args.lock.index c.requires.domain c.requires.lock,
-        stepped.seize_noted v l met m n made cpu.apart cpu.noted.few b _ (c.waits-waited.ensures (locks_of m.0.who.plan) m.0.calls cpu.noted) c.requires.row c.waits_after_seize-waits.result c.waits_after_seize-waits.ensures,
+        stepped.seize_noted v l met m n made apart noted.few b _ (c.waits-waited.ensures (locks_of m.0.who.plan) m.0.calls noted) c.requires.row c.waits_after_seize-waits.result c.waits_after_seize-waits.ensures,
       );
     }
 
 pub invariant_of-cpu : goal.invariant_of-cpu
 invariant_of-cpu c =
     let cpu = c.args.cpu.now in
+    let noted = noted_of cpu c.args.domain.now c.requires.domain in
+    let apart = apart_of cpu c.args.domain.now c.requires.domain in
     let m = cpu.seat.me in
     let n = c.act_by-met.new.seat.me in
     let v = c.args.verb in
@@ -45,15 +49,16 @@ invariant_of-cpu c =
     let made = c.act_by-met.ensures.step in
     let b = waits_in m.0.calls.frames l in
     record {
-      numbered = stepped.numbered v l met m n made cpu.apart cpu.noted.few cpu.numbered;
-      noted = stepped.noted v l met m n made cpu.apart cpu.noted.few
-          (c.step.ensures (locks_of m.0.who.plan) m.0.calls n.0.calls cpu.noted (low_of cpu c.args.domain.now c.args.lock.index c.requires.domain c.requires.lock)
-          (stepped.seize_noted v l met m n made cpu.apart cpu.noted.few b _ (c.waits-waited.ensures (locks_of m.0.who.plan) m.0.calls cpu.noted) c.requires.row c.waits_after_seize-waits.result c.waits_after_seize-waits.ensures));
-      apart = (stepped.seize v l met m n made cpu.apart cpu.noted.few b c.requires.row).apart;
-      carried = stepped.carried v l met m n made cpu.apart cpu.noted.few cpu.carried;
+      numbered = stepped.numbered v l met m n made apart noted.few cpu.numbered;
+      noted = λ _. stepped.noted v l met m n made apart noted.few
+          (c.step.ensures (locks_of m.0.who.plan) m.0.calls n.0.calls noted (low_of cpu c.args.domain.now c.args.lock.index c.requires.domain c.requires.lock)
+          (stepped.seize_noted v l met m n made apart noted.few b _ (c.waits-waited.ensures (locks_of m.0.who.plan) m.0.calls noted) c.requires.row c.waits_after_seize-waits.result c.waits_after_seize-waits.ensures));
+      apart = λ _. (stepped.seize v l met m n made apart noted.few b c.requires.row).apart;
+      carried = stepped.carried v l met m n made apart noted.few cpu.carried;
     }
 
 pub waits-waited-requires : goal.waits-waited-requires
 waits-waited-requires c =
     let cpu = c.args.cpu.now in
-    record { some = (locks_of cpu.seat.me.0.who.plan, cpu.seat.me.0.calls, cpu.noted) }
+    let noted = noted_of cpu c.args.domain.now c.requires.domain in
+    record { some = (locks_of cpu.seat.me.0.who.plan, cpu.seat.me.0.calls, noted) }

@@ -5,32 +5,35 @@ use Rattle.lk_domain.proofs.rw.Released as released
 use Rattle.lk_domain.proofs.rw.Released.{reader}
 use Rattle.lk_domain.proofs.rw.Stepped as stepped
 use Rattle.lk_domain.specs.Plans.{locks_of}
-use Rattle.lk_domain.proofs.Seating.{low_of}
+use Rattle.lk_domain.proofs.Seating.{low_of, apart_of, noted_of}
 use Rattle.lk_domain.proofs.locks.rw_steps.release_as_reader.Goals as goal
 
 pub invariant_of-cpu : goal.invariant_of-cpu
 invariant_of-cpu c =
     let cpu = c.args.cpu.now in
+    let noted = noted_of cpu c.args.domain.now c.requires.domain in
+    let apart = apart_of cpu c.args.domain.now c.requires.domain in
     let l = c.args.lock in
     let m = cpu.seat.me in
     let n = c.act_by-met.new.seat.me in
     let met = c.act_by-met.result in
     let made = c.act_by-met.ensures.step in
-    let e = released.ended RUnlock reader l met m n made cpu.apart in
+    let e = released.ended RUnlock reader l met m n made apart in
     record {
-      numbered = stepped.numbered RUnlock l met m n made cpu.apart cpu.noted.few cpu.numbered;
-      noted = stepped.noted RUnlock l met m n made cpu.apart cpu.noted.few
-          (c.free.ensures (locks_of m.0.who.plan) m.0.calls n.0.calls cpu.noted (low_of cpu c.args.domain.now c.args.lock c.requires.domain c.requires.lock) e.frames
-          (released.none RUnlock reader l met m n made cpu.apart) (released.other_holds RUnlock reader l met m n made cpu.apart));
-      apart = ap are_calls e.frames ∙ cpu.apart;
-      carried = stepped.carried RUnlock l met m n made cpu.apart cpu.noted.few cpu.carried;
+      numbered = stepped.numbered RUnlock l met m n made apart noted.few cpu.numbered;
+      noted = λ _. stepped.noted RUnlock l met m n made apart noted.few
+          (c.free.ensures (locks_of m.0.who.plan) m.0.calls n.0.calls noted (low_of cpu c.args.domain.now c.args.lock c.requires.domain c.requires.lock) e.frames
+          (released.none RUnlock reader l met m n made apart) (released.other_holds RUnlock reader l met m n made apart));
+      apart = λ _. ap are_calls e.frames ∙ apart;
+      carried = stepped.carried RUnlock l met m n made apart noted.few cpu.carried;
     }
 
 pub free-requires : goal.free-requires
 free-requires c =
-    let cpu = c.args.cpu.now in (
+    let cpu = c.args.cpu.now in
+    let noted = noted_of cpu c.args.domain.now c.requires.domain in (
       locks_of cpu.seat.me.0.who.plan,
       cpu.seat.me.0.calls,
-      cpu.noted,
+      noted,
       low_of cpu c.args.domain.now c.args.lock c.requires.domain c.requires.lock,
     )

@@ -7,7 +7,7 @@ use Rattle.lk_domain.specs.RwRows.{seizes_at, seizes_by}
 use Rattle.lk_domain.specs.declared.view.View.{View}
 use Rattle.lk_domain.proofs.rw.Stepped as stepped
 use Rattle.lk_domain.specs.Plans.{locks_of}
-use Rattle.lk_domain.proofs.Seating.{low_of}
+use Rattle.lk_domain.proofs.Seating.{low_of, apart_of, noted_of}
 use Rattle.lk_domain.proofs.locks.rw_steps.seize_first.Goals as goal
 
 by_verb : (b : Bool) (v : Verb) (w : View) (l : ℕ) → v ≡ Write → ActsFor (seizes_at b v) w v l → ActsFor (seizes_at b Write) w Write l
@@ -24,6 +24,8 @@ act_by-met-requires-clause-row c =
 pub first_step-requires : goal.first_step-requires
 first_step-requires c =
     let cpu = c.args.cpu.now in
+    let noted = noted_of cpu c.args.domain.now c.requires.domain in
+    let apart = apart_of cpu c.args.domain.now c.requires.domain in
     let m = cpu.seat.me in
     let n = c.act_by-met.new.seat.me in
     let l = c.args.lock.index in
@@ -35,9 +37,9 @@ first_step-requires c =
         locks_of m.0.who.plan,
         m.0.calls,
         n.0.calls,
-        cpu.noted,
+        noted,
         low_of cpu c.args.domain.now c.args.lock.index c.requires.domain c.requires.lock,
-        stepped.seize_noted Write l met m n made cpu.apart cpu.noted.few b false (sym c.requires.fresh)
+        stepped.seize_noted Write l met m n made apart noted.few b false (sym c.requires.fresh)
             (by_verb b c.args.verb m.0 l c.requires.verb c.requires.row) _ refl,
       );
     }
@@ -45,6 +47,8 @@ first_step-requires c =
 pub invariant_of-cpu : goal.invariant_of-cpu
 invariant_of-cpu c =
     let cpu = c.args.cpu.now in
+    let noted = noted_of cpu c.args.domain.now c.requires.domain in
+    let apart = apart_of cpu c.args.domain.now c.requires.domain in
     let m = cpu.seat.me in
     let n = c.act_by-met.new.seat.me in
     let l = c.args.lock.index in
@@ -53,10 +57,10 @@ invariant_of-cpu c =
     let b = waits_in m.0.calls.frames l in
     let row = by_verb b c.args.verb m.0 l c.requires.verb c.requires.row in
     record {
-      numbered = stepped.numbered Write l met m n made cpu.apart cpu.noted.few cpu.numbered;
-      noted = stepped.noted Write l met m n made cpu.apart cpu.noted.few
-          (c.first_step.ensures (locks_of m.0.who.plan) m.0.calls n.0.calls cpu.noted (low_of cpu c.args.domain.now c.args.lock.index c.requires.domain c.requires.lock) c.requires.fresh
-          (stepped.seize_noted Write l met m n made cpu.apart cpu.noted.few b false (sym c.requires.fresh) row _ refl));
-      apart = (stepped.seize Write l met m n made cpu.apart cpu.noted.few b row).apart;
-      carried = stepped.carried Write l met m n made cpu.apart cpu.noted.few cpu.carried;
+      numbered = stepped.numbered Write l met m n made apart noted.few cpu.numbered;
+      noted = λ _. stepped.noted Write l met m n made apart noted.few
+          (c.first_step.ensures (locks_of m.0.who.plan) m.0.calls n.0.calls noted (low_of cpu c.args.domain.now c.args.lock.index c.requires.domain c.requires.lock) c.requires.fresh
+          (stepped.seize_noted Write l met m n made apart noted.few b false (sym c.requires.fresh) row _ refl));
+      apart = λ _. (stepped.seize Write l met m n made apart noted.few b row).apart;
+      carried = stepped.carried Write l met m n made apart noted.few cpu.carried;
     }

@@ -2,7 +2,7 @@ use Rattle.std.proofs.Common.{refl}
 use Rattle.lk_domain.proofs.turns.Carried as row
 use Rattle.lk_domain.proofs.turns.Noted.{stays}
 use Rattle.lk_domain.proofs.turns.Stepped as stepped
-use Rattle.lk_domain.proofs.Seating.{table_of}
+use Rattle.lk_domain.proofs.Seating.{table_of, apart_of, noted_of}
 use Rattle.lk_domain.proofs.words.Goings.{at_clear}
 use Rattle.lk_domain.specs.Plans.{locks_of}
 use Rattle.lk_domain.proofs.locks.steps.clear_pending.Goals as goal
@@ -10,18 +10,20 @@ use Rattle.lk_domain.proofs.locks.steps.clear_pending.Goals as goal
 pub invariant_of-cpu : goal.invariant_of-cpu
 invariant_of-cpu c =
     let cpu = c.args.cpu.now in
+    let noted = noted_of cpu c.args.domain.now c.requires.domain in
+    let apart = apart_of cpu c.args.domain.now c.requires.domain in
     let l = c.args.lock in
     let v = c.args.verb in
     let m = cpu.seat.me in
     let n = c.go_on.new.seat.me in
     let met = c.go_on.result in
     let made = c.go_on.ensures.made c.args.verb (at_clear c.args.cpu.now.seat.me.0 c.args.verb c.args.lock c.requires.row) in
-    let t = stepped.clears v l met m n made cpu.apart cpu.noted.few c.requires.row in
+    let t = stepped.clears v l met m n made apart noted.few c.requires.row in
     record {
       numbered = row.numbered v l.index met m n made cpu.numbered;
-      noted = row.noted v l.index met m n made
-          (stays cpu.notes (locks_of m.0.who.plan) m.0.calls n.0.calls l.index _ cpu.noted t.steps (t.on refl) t.was);
-      apart = t.apart;
+      noted = λ _. row.noted v l.index met m n made
+          (stays cpu.notes (locks_of m.0.who.plan) m.0.calls n.0.calls l.index _ noted t.steps (t.on refl) t.was);
+      apart = λ _. t.apart;
       carried = row.carried v l.index met m n made cpu.carried;
     }
 

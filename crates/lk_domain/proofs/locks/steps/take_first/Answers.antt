@@ -11,7 +11,7 @@ use Rattle.lk_domain.specs.declared.view.View.{View}
 use Rattle.lk_domain.proofs.Turned.{none_slow}
 use Rattle.lk_domain.proofs.turns.Carried as row
 use Rattle.lk_domain.proofs.turns.Stepped as stepped
-use Rattle.lk_domain.proofs.Seating.{table_of, low_of}
+use Rattle.lk_domain.proofs.Seating.{table_of, low_of, apart_of, noted_of}
 use Rattle.lk_domain.specs.Plans.{locks_of}
 use Rattle.lk_domain.proofs.locks.steps.take_first.Goals as goal
 
@@ -26,6 +26,8 @@ unslow old new l slow waits taken = subst (λ (b : Bool). Steps old new l waits 
 pub first_step-requires : goal.first_step-requires
 first_step-requires c =
     let cpu = c.args.cpu.now in
+    let noted = noted_of cpu c.args.domain.now c.requires.domain in
+    let apart = apart_of cpu c.args.domain.now c.requires.domain in
     let m = cpu.seat.me in
     let n = c.take_free-met.new.seat.me in
     let l = c.args.lock.index in
@@ -34,10 +36,10 @@ first_step-requires c =
         locks_of m.0.who.plan,
         m.0.calls,
         n.0.calls,
-        cpu.noted,
+        noted,
         low_of cpu c.args.domain.now c.args.lock.index c.requires.domain c.requires.lock,
         unslow m.0.calls n.0.calls l (slow_in m.0.calls.frames l) _ _ (none_slow m.0.calls.frames l c.requires.fresh)
-            (stepped.takes_noted Lock c.args.lock c.take_free-met.result m n c.take_free-met.ensures.step cpu.apart cpu.noted.few
+            (stepped.takes_noted Lock c.args.lock c.take_free-met.result m n c.take_free-met.ensures.step apart noted.few
             (by_lock c.args.verb m.0 c.args.lock c.requires.verb c.requires.row) _ _ _ refl refl refl),
       );
     }
@@ -45,6 +47,8 @@ first_step-requires c =
 pub invariant_of-cpu : goal.invariant_of-cpu
 invariant_of-cpu c =
     let cpu = c.args.cpu.now in
+    let noted = noted_of cpu c.args.domain.now c.requires.domain in
+    let apart = apart_of cpu c.args.domain.now c.requires.domain in
     let l = c.args.lock in
     let m = cpu.seat.me in
     let n = c.take_free-met.new.seat.me in
@@ -53,11 +57,11 @@ invariant_of-cpu c =
     let row_is = by_lock c.args.verb m.0 l c.requires.verb c.requires.row in
     record {
       numbered = row.numbered Lock l.index met m n made cpu.numbered;
-      noted = row.noted Lock l.index met m n made
-          (c.first_step.ensures (locks_of m.0.who.plan) m.0.calls n.0.calls cpu.noted (low_of cpu c.args.domain.now c.args.lock.index c.requires.domain c.requires.lock) c.requires.fresh
+      noted = λ _. row.noted Lock l.index met m n made
+          (c.first_step.ensures (locks_of m.0.who.plan) m.0.calls n.0.calls noted (low_of cpu c.args.domain.now c.args.lock.index c.requires.domain c.requires.lock) c.requires.fresh
           (unslow m.0.calls n.0.calls l.index (slow_in m.0.calls.frames l.index) _ _ (none_slow m.0.calls.frames l.index c.requires.fresh)
-          (stepped.takes_noted Lock l met m n made cpu.apart cpu.noted.few row_is _ _ _ refl refl refl)));
-      apart = (stepped.takes Lock l met m n made cpu.apart cpu.noted.few row_is).apart;
+          (stepped.takes_noted Lock l met m n made apart noted.few row_is _ _ _ refl refl refl)));
+      apart = λ _. (stepped.takes Lock l met m n made apart noted.few row_is).apart;
       carried = row.carried Lock l.index met m n made cpu.carried;
     }
 

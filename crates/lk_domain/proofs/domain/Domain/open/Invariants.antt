@@ -4,7 +4,7 @@ use Rattle.lk_domain.specs.Ledgers.{no_ledger}
 use Rattle.lk_domain.specs.Plans.{cpus_of}
 use Rattle.lk_domain.specs.Seats.{AreDealt}
 use Rattle.lk_domain.specs.Views.{view, dealer}
-use Rattle.lk_domain.proofs.domain.Domain.with_values.Given as goal
+use Rattle.lk_domain.proofs.domain.Domain.open.Given as goal
 
 abbrev pub invariant-loop-number : goal.invariant-loop-number
 invariant-loop-number l = record {

@@ -1,6 +1,6 @@
 use Rattle.std.proofs.Common.{ap, ◌∙◌, ◌+◌, ◌∷◌, [], length, length-append}
 use Rattle.lk_domain.proofs.seats.Openings.{dealt_more}
-use Rattle.lk_domain.proofs.domain.Domain.with_values.Goals as goal
+use Rattle.lk_domain.proofs.domain.Domain.open.Goals as goal
 
 pub loop-number-preserved : goal.loop-number-preserved
 loop-number-preserved c =
