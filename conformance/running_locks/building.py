@@ -27,15 +27,15 @@ PV_HOW = {"ResetLooks": "Before", "EntryLooks": "Spares", "Entries": "Enters", "
           "HeadTries": "Heads", "ReleaseTries": "Releases", "Fillings": "Fills", "PlaceLooks": "Finds(lock)", "Erasings": "Empties(lock)"}
 PV_FILES = "arriving.rt waiting.rt leading.rt handing.rt"
 PV_ROWS = (
-    ("calls.rt", "    if moves::take_free(", "seat", "F1"),
-    ("calls.rt", "    if moves::look_once(", "seat", "T1"),
-    ("calls.rt", "    if moves::take_once(", "seat", "T2"),
-    ("calls.rt", "    let met = tries::try_release(", "&mut cpu.seat", "U2"),
+    ("halting.rt", "    if moves::take_free(", "seat", "F1"),
+    ("halting.rt", "    if moves::look_once(", "seat", "T1"),
+    ("halting.rt", "    if moves::take_once(", "seat", "T2"),
+    ("halting.rt", "    let met = tries::try_release(seat, domain, lock, HELD);\n    if met == HELD {\n        return;\n", "seat", "U2"),
     ("freeing.rt", "    let pair = hash::take_out(", "seat", "U3"),
     ("freeing.rt", "    words::go_on(seat, domain, lock, WordUse::Drops);", "seat", "U4"),
     ("freeing.rt", "    kicks::kick(", "seat", "U5"),
 )
-PV_ASKED = "    if !domain.is_kicked(cpu) {\n        return false;\n    }\n"
+PV_ASKED = "    if !is_kicked(domain, own.cpu) {\n        return false;\n    }\n"
 SHARED = re.compile(r"let shared = &((?:domain\.)?table)\.shared;")
 IN_DOMAIN = (
     ("cpu.rt", "    pub(crate) notes: Notes,\n", "    pub(crate) notes: Notes,\n    pub(crate) row: &'static str,\n    pub(crate) made: &'static str,\n"

@@ -45,8 +45,8 @@ MISTAKES = (
     # A paravirtual head leaves its pending bit when its turns are over, so that nobody steals from one that sleeps.
     Mistake("sleeps_pending", "lk_pvdomain", "slowpath.rt", "        self.clear_pending(seat, hashed);\n", pv_left_out(6, "self.clear_pending(seat, hashed);", " " * 8)),
     # One that goes on behind its halt, or does not halt, does not take its state back.
-    Mistake("stays_halted", "lk_pvdomain", "slowpath.rt", "        self.say_running(seat, prev);\n        let left = self.domain.turns();\n        self.wait(seat",
-            pv_left_out(7, "self.say_running(seat, prev);", " " * 8) + "        let left = self.domain.turns();\n        self.wait(seat"),
+    Mistake("stays_halted", "lk_pvdomain", "slowpath.rt", "        self.say_running(seat, prev);\n        let left = self.turns();\n        self.wait(seat",
+            pv_left_out(7, "self.say_running(seat, prev);", " " * 8) + "        let left = self.turns();\n        self.wait(seat"),
     # A holder that hands off to one that has halted does not make the byte slow, so its release kicks nobody.
     Mistake("kicks_nobody", "lk_pvdomain", "slowpath.rt", "            self.store_slow(seat, to);\n", pv_left_out(8, "self.store_slow(seat, to);", " " * 12)),
 )

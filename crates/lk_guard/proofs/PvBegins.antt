@@ -12,8 +12,9 @@ use Rattle.lk_guard.specs.Holding.{Begins}
 use Rattle.lk_guard.specs.Idle.{IsFree, Stays, pv_crew_of}
 use Rattle.lk_pvdomain.specs.PvCalls.{HasTaken}
 use Rattle.lk_pvdomain.proofs.PvSeating.{same_of}
-use Rattle.lk_pvdomain.specs.PvSeats.{IsOf, IsSame, calls_of, view_of}
-use Rattle.lk_pvdomain.specs.declared.cpu.PvCpu.{PvCpu}
+use Rattle.lk_domain.specs.Seats.{IsSame, calls_of, view_of}
+use Rattle.lk_pvdomain.specs.PvSeats.{IsOf}
+use Rattle.lk_domain.specs.declared.cpu.Cpu.{Cpu}
 use Rattle.lk_pvdomain.specs.declared.domain.PvDomain.{PvDomain}
 use Rattle.lk_run.specs.Polls.{IsPolled, RisesBy}
 
@@ -26,11 +27,11 @@ unpolled trail = record { falls = refl; rises = λ k h. never_counted k }
 
 module _ (d : PvDomain) where
   -- its one lock is a spinlock
-  spins : kind_at d.plan 0 ≡ Spin
-  spins = d.lawful.spins d.halting 0
+  spins : kind_at d.domain.plan 0 ≡ Spin
+  spins = d.domain.lawful.spins d.halting 0
 
-  pub pv_begins : (a b : PvCpu) → IsFree a → HasTaken d 0 a b
-      → Begins (guard_in d.plan) a.number Lock Spins (view_of a) (view_of b) None None
+  pub pv_begins : (a b : Cpu) → IsFree a → HasTaken d 0 a b
+      → Begins (guard_in d.domain.plan) a.number Lock Spins (view_of a) (view_of b) None None
   pv_begins a b free taken =
       let took = taken.took in
       record {
@@ -51,16 +52,16 @@ module _ (d : PvDomain) where
 
   -- so a look in it is one to read
   pub opens_to_read : (g h : Ledger) (trail : List Mark) → h ≡ opened g Spins trail
-      → h ≡ opened g (reads_as (kind_at d.plan 0)) trail
+      → h ≡ opened g (reads_as (kind_at d.domain.plan 0)) trail
   opens_to_read g h trail e = subst (λ (q : Kind). h ≡ opened g (reads_as q) trail) (sym spins) e
 
-  pub taken_to_read : (p : ℕ) (trail : List Mark) → IsTaken (guard_in d.plan) p Lock Spins (new_look Spins trail)
-      → IsToRead (guard_in d.plan) p (new_look (reads_as (kind_at d.plan 0)) trail)
+  pub taken_to_read : (p : ℕ) (trail : List Mark) → IsTaken (guard_in d.domain.plan) p Lock Spins (new_look Spins trail)
+      → IsToRead (guard_in d.domain.plan) p (new_look (reads_as (kind_at d.domain.plan 0)) trail)
   taken_to_read p trail t =
-      subst (λ (q : Kind). IsTaken (guard_in d.plan) p (reads_by q) (reads_as q) (new_look (reads_as q) trail)) (sym spins) t
+      subst (λ (q : Kind). IsTaken (guard_in d.domain.plan) p (reads_by q) (reads_as q) (new_look (reads_as q) trail)) (sym spins) t
 
 -- a processor that is the same as before, and free, is one of the domain
-pub pv_stays : (d : PvDomain) (a b : PvCpu) → IsOf a d → IsSame a b → IsFree b → Stays (pv_crew_of d) a b
+pub pv_stays : (d : PvDomain) (a b : Cpu) → IsOf a d → IsSame a b → IsFree b → Stays (pv_crew_of d) a b
 pv_stays d a b of same free = record {
   same = λ i. record { table = same.table i; id = same.id i; number = same.number i; who = same.who i };
   ready = (same_of d a b same of, free);

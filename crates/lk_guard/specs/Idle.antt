@@ -5,15 +5,14 @@ use Rattle.atomic_table.specs.declared.shared.Seat.{Seat}
 use Rattle.lk_domain.specs.Keeps.{Slot}
 use Rattle.lk_domain.specs.Ledgers.{Ledger}
 use Rattle.lk_domain.specs.Seated.{HoldsNothing}
-use Rattle.lk_domain.specs.Seats.{IsOf, ledger_of, view_of}
+use Rattle.lk_domain.specs.Seats.{IsOf, calls_of, ledger_of, view_of}
 use Rattle.lk_domain.specs.Who.{Who}
 use Rattle.lk_domain.specs.declared.cpu.Cpu.{Cpu}
 use Rattle.lk_domain.specs.declared.domain.Domain.{Domain}
 use Rattle.lk_domain.specs.declared.plan.Plan.{Plan}
 use Rattle.lk_domain.specs.declared.view.View.{View}
 use Rattle.lk_pvdomain.specs.PvCalls.{IsResting}
-use Rattle.lk_pvdomain.specs.PvSeats.{IsOf as IsPvOf, calls_of, ledger_of as pv_ledger, view_of as pv_view}
-use Rattle.lk_pvdomain.specs.declared.cpu.PvCpu.{PvCpu}
+use Rattle.lk_pvdomain.specs.PvSeats.{IsOf as IsPvOf}
 use Rattle.lk_pvdomain.specs.declared.domain.PvDomain.{PvDomain}
 
 -- it waits for nothing, holds nothing, and does not have the journal out
@@ -21,8 +20,8 @@ abbrev pub IsIdle : Cpu → Type 0
 IsIdle cpu = HoldsNothing (view_of cpu)
 
 -- the same of one whose family halts, which has not halted
-pub record IsFree (cpu : PvCpu) : Type 0 where
-  pub nothing : HoldsNothing (pv_view cpu)
+pub record IsFree (cpu : Cpu) : Type 0 where
+  pub nothing : HoldsNothing (view_of cpu)
   pub rests : IsResting (calls_of cpu)
 
 -- what a processor stays, whatever it does: its table, its seat, its number, and who it is
@@ -53,13 +52,13 @@ crew_of domain =
       ledger = ledger_of;
     }
 
-abbrev pub pv_crew_of : PvDomain → Crew PvCpu
+abbrev pub pv_crew_of : PvDomain → Crew Cpu
 pv_crew_of domain =
     record {
-      plan = domain.plan;
+      plan = domain.domain.plan;
       ready = λ cpu. IsPvOf cpu domain × IsFree cpu;
       being = λ cpu. being_of cpu.number cpu.seat;
-      ledger = pv_ledger;
+      ledger = ledger_of;
     }
 
 -- one of them is the same as before, and ready again

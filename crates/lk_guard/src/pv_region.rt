@@ -8,7 +8,8 @@ ghost use Rattle.lk_guard.specs.Guards.{guard_in};
 ghost use Rattle.lk_guard.specs.Holding.{Begins, HoldsFirst};
 ghost use Rattle.lk_guard.specs.Idle.{IsFree, pv_crew_of};
 ghost use Rattle.lk_pvdomain.specs.PvCalls.{IsResting};
-ghost use Rattle.lk_pvdomain.specs.PvSeats.{IsOf, IsSame, calls_of, ledger_of, view_of};
+ghost use Rattle.lk_domain.specs.Seats.{IsSame, calls_of, ledger_of, view_of};
+ghost use Rattle.lk_pvdomain.specs.PvSeats.{IsOf};
 
 use crate::books::Books;
 use crate::region::FIRST;
@@ -22,13 +23,13 @@ use std::sync::Wait;
 #[derive(Drop)]
 pub struct PvRegion {
     pub(crate) domain: PvDomain,
-    ghost alone: { locks_of domain.plan ≡ 1 },
+    ghost alone: { locks_of domain.domain.plan ≡ 1 },
 }
 
 impl PvRegion {
     /// Puts the ledger of a domain under its lock. The domain must have exactly one lock.
     pub fn new(domain: PvDomain) -> PvRegion
-        requires { locks_of domain.plan ≡ 1 }
+        requires { locks_of domain.domain.plan ≡ 1 }
         ensures { result.domain ≡ domain }
     {
         PvRegion { domain }
@@ -48,7 +49,7 @@ impl PvRegion {
         requires free { IsFree cpu.old }
         ensures same { IsSame cpu.old cpu.new }
         ensures rests { IsResting (calls_of cpu.new) }
-        ensures begun { Begins (guard_in self.now.domain.plan) cpu.old.number Lock Spins
+        ensures begun { Begins (guard_in self.now.domain.domain.plan) cpu.old.number Lock Spins
             (view_of cpu.old) (view_of cpu.new) None None }
     {
         pv_lock(cpu, rt, &self.domain, FIRST);
@@ -86,8 +87,8 @@ impl Guarded for PvRegion {
             job,
         };
         let books = Books {
-            table: &self.domain.table,
-            plan: &self.domain.plan,
+            table: &self.domain.domain.table,
+            plan: &self.domain.domain.plan,
         };
         let reply = books.append(&mut cpu.seat, task);
         self.end(cpu, rt);
@@ -98,8 +99,8 @@ impl Guarded for PvRegion {
     fn read<R: Wait>(&self, cpu: &mut PvCpu, rt: &R, job: Job) -> (u64, Reply) {
         self.hold(cpu, rt);
         let books = Books {
-            table: &self.domain.table,
-            plan: &self.domain.plan,
+            table: &self.domain.domain.table,
+            plan: &self.domain.domain.plan,
         };
         let seen = books.look(&mut cpu.seat, job);
         self.end(cpu, rt);

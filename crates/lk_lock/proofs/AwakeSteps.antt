@@ -161,5 +161,5 @@ freed_before l m before now new k has is holds =
     (same now new is) holds (dropped k l has.nth m _ has.fresh)
 
 -- a domain whose waiters halt has no reader-writer lock
-pub no_rw : (d : PvDomain) (l : ℕ) → IsOfKind d.plan Rw l → ⊥
-no_rw d l is = let e : Spin ≡ Rw = sym (d.lawful.spins d.halting l) ∙ is.kind_is in cc e
+pub no_rw : (d : PvDomain) (l : ℕ) → IsOfKind d.domain.plan Rw l → ⊥
+no_rw d l is = let e : Spin ≡ Rw = sym (d.domain.lawful.spins d.halting l) ∙ is.kind_is in cc e

@@ -63,9 +63,9 @@ module _ (d : PvDomain) (old : PvCpu) (was : IsReady (domain.Halting d) (cpu.Hal
 
   pub pv_has_locked : (l : ℕ) (v : Verb) (mid : PvCpu) → ((hs : List Hold) → holds_begun v 0 l hs ≡ hs)
       → HasTakenBy v d l old mid
-      → HasLocked (terms_of d.plan) old.number v l (seats.calls_of old) (seats.calls_of mid)
+      → HasLocked (terms_of d.domain.plan) old.number v l (seats.calls_of old) (seats.calls_of mid)
   pv_has_locked l v mid begins taken =
-      let t = terms_of d.plan in
+      let t = terms_of d.domain.plan in
       record {
         path = subst (λ (b : Bool). PathBy b t old.number (begun t.mode 0 v l) (seats.calls_of mid).last (Takes Spins))
             (sym d.halting) taken.took.path;
@@ -75,9 +75,9 @@ module _ (d : PvDomain) (old : PvCpu) (was : IsReady (domain.Halting d) (cpu.Hal
       }
 
   pub pv_has_passed : (l : ℕ) (mid : PvCpu) → HasMissed d l old mid
-      → HasPassed (terms_of d.plan) old.number l (seats.calls_of old) (seats.calls_of mid)
+      → HasPassed (terms_of d.domain.plan) old.number l (seats.calls_of old) (seats.calls_of mid)
   pv_has_passed l mid miss =
-      let t = terms_of d.plan in
+      let t = terms_of d.domain.plan in
       record {
         path = subst (λ (b : Bool). PathBy b t old.number (begun t.mode 0 Try l) (seats.calls_of mid).last Unchanged)
             (sym d.halting) miss.missed.path;
@@ -87,10 +87,10 @@ module _ (d : PvDomain) (old : PvCpu) (was : IsReady (domain.Halting d) (cpu.Hal
       }
 
   pub pv_has_unlocked : (l : ℕ) (mid : PvCpu) → HasFreed d l old mid
-      → HasUnlocked (terms_of d.plan) old.number l (seats.calls_of old) (seats.calls_of mid)
+      → HasUnlocked (terms_of d.domain.plan) old.number l (seats.calls_of old) (seats.calls_of mid)
   pv_has_unlocked l mid free =
       record {
-        way = subst (λ (b : Bool). FreesBy b (terms_of d.plan) old.number l (seats.calls_of mid).last) (sym d.halting)
+        way = subst (λ (b : Bool). FreesBy b (terms_of d.domain.plan) old.number l (seats.calls_of mid).last) (sym d.halting)
             free.ended.path;
         frames = free.rests.frames ∙ sym was.frames;
         none = free.none;

@@ -17,11 +17,11 @@ use Rattle.lk_lock.specs.declared.family.AnyDomain.TheVariants as domain
 
 abbrev pub plan_of : AnyDomain → Plan
 plan_of (domain.Awake d) = d.plan
-plan_of (domain.Halting d) = d.plan
+plan_of (domain.Halting d) = d.domain.plan
 
 abbrev pub table_of : AnyDomain → TableId
 table_of (domain.Awake d) = d.table.shared.table_id
-table_of (domain.Halting d) = d.table.shared.table_id
+table_of (domain.Halting d) = d.domain.table.shared.table_id
 
 abbrev pub halts_in : AnyDomain → Bool
 halts_in (domain.Awake d) = false

@@ -41,7 +41,7 @@ impl AnyDomain {
     {
         match self {
             AnyDomain::Awake(domain) => &domain.plan,
-            AnyDomain::Halting(domain) => &domain.plan,
+            AnyDomain::Halting(domain) => &domain.domain.plan,
         }
     }
 
@@ -52,7 +52,7 @@ impl AnyDomain {
     {
         match self {
             AnyDomain::Awake(domain) => &domain.table,
-            AnyDomain::Halting(domain) => &domain.table,
+            AnyDomain::Halting(domain) => &domain.domain.table,
         }
     }
 
@@ -64,7 +64,7 @@ impl AnyDomain {
     {
         match self {
             AnyDomain::Awake(Domain { table, plan }) => (table, plan),
-            AnyDomain::Halting(PvDomain { table, plan }) => (table, plan),
+            AnyDomain::Halting(PvDomain { domain }) => (domain.table, domain.plan),
         }
     }
 

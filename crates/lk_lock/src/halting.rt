@@ -22,7 +22,7 @@ use std::sync::Wait;
 #[inline(always)]
 pub(crate) fn take<R: Wait>(cpu: &mut PvCpu, rt: &R, domain: &PvDomain, id: LockId)
     requires ready { IsReady (halting_domain domain.now) (halting_cpu cpu.old) }
-    requires lock { IsOfKind domain.now.plan Spin id.index }
+    requires lock { IsOfKind domain.now.domain.plan Spin id.index }
     requires free { holds_in cpu.old.seat.me.0.calls.holds id.index ≡ false }
     ensures { TakesLock (halting_domain domain.now) Lock id.index (halting_cpu cpu.old) (halting_cpu cpu.new) }
 {
@@ -32,7 +32,7 @@ pub(crate) fn take<R: Wait>(cpu: &mut PvCpu, rt: &R, domain: &PvDomain, id: Lock
 // Takes the lock if it is free.
 pub(crate) fn try_take(cpu: &mut PvCpu, domain: &PvDomain, id: LockId) -> bool
     requires ready { IsReady (halting_domain domain.now) (halting_cpu cpu.old) }
-    requires lock { IsOfKind domain.now.plan Spin id.index }
+    requires lock { IsOfKind domain.now.domain.plan Spin id.index }
     requires free { holds_in cpu.old.seat.me.0.calls.holds id.index ≡ false }
     ensures taken { result ≡ true
         → TakesLock (halting_domain domain.now) Try id.index (halting_cpu cpu.old) (halting_cpu cpu.new) }
@@ -46,7 +46,7 @@ pub(crate) fn try_take(cpu: &mut PvCpu, domain: &PvDomain, id: LockId) -> bool
 #[inline(always)]
 pub(crate) fn free<R: Wait>(cpu: &mut PvCpu, rt: &R, domain: &PvDomain, id: LockId)
     requires ready { IsReady (halting_domain domain.now) (halting_cpu cpu.old) }
-    requires lock { IsOfKind domain.now.plan Spin id.index }
+    requires lock { IsOfKind domain.now.domain.plan Spin id.index }
     requires holding { (before : AnyCpu) × IsHolding id.index Spins before (halting_cpu cpu.old) }
     ensures { FreesLock (halting_domain domain.now) id.index (halting_cpu cpu.old) (halting_cpu cpu.new) }
 {
@@ -62,40 +62,40 @@ pub(crate) fn work<U, W: FnOnce(&mut Key) -> U>(
     work: W,
 ) -> U
     requires ready { IsReady (halting_domain domain.now) (halting_cpu cpu.old) }
-    requires lock { id.index < locks_of domain.now.plan }
-    requires valued { HasCell domain.now.plan id.index }
+    requires lock { id.index < locks_of domain.now.domain.plan }
+    requires valued { HasCell domain.now.domain.plan id.index }
     requires held { IsHomeWith id.index cpu.old.seat.me.0.calls.holds }
-    requires work { KeepsFit W.FnOnce (IsKeyOf domain.now.plan id.index) work }
+    requires work { KeepsFit W.FnOnce (IsKeyOf domain.now.domain.plan id.index) work }
     ensures still { IsStill (halting_cpu cpu.old) (halting_cpu cpu.new) }
-    ensures done { HasWorked W.FnOnce (IsKeyOf domain.now.plan id.index) work result }
+    ensures done { HasWorked W.FnOnce (IsKeyOf domain.now.domain.plan id.index) work result }
 {
     let home = id.index as usize;
-    values::work_at(&mut cpu.seat, &domain.table, &domain.plan, home, work)
+    values::work_at(&mut cpu.seat, &domain.domain.table, &domain.domain.plan, home, work)
 }
 
 // Takes the key out.
 pub(crate) fn key_of(cpu: &mut PvCpu, domain: &PvDomain, id: LockId) -> Key
     requires ready { IsReady (halting_domain domain.now) (halting_cpu cpu.old) }
-    requires lock { id.index < locks_of domain.now.plan }
-    requires valued { HasCell domain.now.plan id.index }
+    requires lock { id.index < locks_of domain.now.domain.plan }
+    requires valued { HasCell domain.now.domain.plan id.index }
     requires held { IsHomeWith id.index cpu.old.seat.me.0.calls.holds }
     ensures taken { TakesValue id.index (halting_cpu cpu.old) (halting_cpu cpu.new) }
-    ensures key { IsKeyOf domain.now.plan id.index result }
+    ensures key { IsKeyOf domain.now.domain.plan id.index result }
 {
     let home = id.index as usize;
-    values::take(&mut cpu.seat, &domain.table, &domain.plan, home)
+    values::take(&mut cpu.seat, &domain.domain.table, &domain.domain.plan, home)
 }
 
 // Brings it home.
 pub(crate) fn bring(cpu: &mut PvCpu, domain: &PvDomain, id: LockId, key: Key)
     requires ready { IsReady (halting_domain domain.now) (halting_cpu cpu.old) }
-    requires lock { id.index < locks_of domain.now.plan }
-    requires valued { HasCell domain.now.plan id.index }
-    requires newest { IsNewestAt domain.now.plan id.index id.index
+    requires lock { id.index < locks_of domain.now.domain.plan }
+    requires valued { HasCell domain.now.domain.plan id.index }
+    requires newest { IsNewestAt domain.now.domain.plan id.index id.index
         (outs_of cpu.old.seat.me.0) }
-    requires key { IsKeyOf domain.now.plan id.index key }
+    requires key { IsKeyOf domain.now.domain.plan id.index key }
     ensures brought { BringsValue id.index (halting_cpu cpu.old) (halting_cpu cpu.new) }
 {
     let home = id.index as usize;
-    values::bring(&mut cpu.seat, &domain.table, &domain.plan, home, key);
+    values::bring(&mut cpu.seat, &domain.domain.table, &domain.domain.plan, home, key);
 }

@@ -4,6 +4,7 @@ ghost use Rattle.std.specs.Prelude.{◌≡◌, Some, false};
 ghost use Rattle.lk_abs.specs.declared.holder.Manner.TheVariants.{Spins};
 ghost use Rattle.lk_abs.specs.declared.names.Kind.TheVariants.{Spin};
 ghost use Rattle.lk_law.specs.Agree.{halts};
+ghost use Rattle.lk_domain.specs.Seats.{IsOf};
 ghost use Rattle.lk_run.specs.declared.waiter.Waiter.{Waiter};
 ghost use Rattle.lk_polled_tests.specs.Stages.{Has, Locking, MayBegin};
 
@@ -41,7 +42,8 @@ fn begins(cpu: &mut Cpu, domain: &Domain) -> Option<Waiter>
 // Goes on with it.
 fn polls(cpu: &mut Cpu, domain: &Domain, waiter: Waiter) -> Option<Waiter>
     requires { Locking domain.now waiter cpu.old }
-    ensures { (w : Waiter) → result ≡ Some w → Locking domain.now w cpu.new }
+    ensures domain { IsOf cpu.new domain.now }
+    ensures waits { (w : Waiter) → result ≡ Some w → Locking domain.now w cpu.new }
 {
     poll(cpu, domain, waiter)
 }

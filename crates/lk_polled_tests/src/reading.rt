@@ -3,6 +3,7 @@ ghost use Rattle.std.specs.Prelude.{◌≡◌, Some, false};
 ghost use Rattle.lk_abs.specs.declared.holder.Manner.TheVariants.{Writes};
 ghost use Rattle.lk_abs.specs.declared.names.Kind.TheVariants.{Rw};
 ghost use Rattle.lk_law.specs.Agree.{halts};
+ghost use Rattle.lk_domain.specs.Seats.{IsOf};
 ghost use Rattle.lk_run.specs.declared.read_waiter.ReadWaiter.{ReadWaiter};
 ghost use Rattle.lk_polled_tests.specs.Stages.{Has, MayBegin, Reading};
 
@@ -40,7 +41,8 @@ fn begins(cpu: &mut Cpu, domain: &Domain) -> Option<ReadWaiter>
 // Goes on with it.
 fn polls(cpu: &mut Cpu, domain: &Domain, waiter: ReadWaiter) -> Option<ReadWaiter>
     requires { Reading domain.now waiter cpu.old }
-    ensures { (w : ReadWaiter) → result ≡ Some w → Reading domain.now w cpu.new }
+    ensures domain { IsOf cpu.new domain.now }
+    ensures waits { (w : ReadWaiter) → result ≡ Some w → Reading domain.now w cpu.new }
 {
     poll_read(cpu, domain, waiter)
 }

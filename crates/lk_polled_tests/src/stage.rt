@@ -38,6 +38,7 @@ fn plan_of(alloc: Global, mode: Mode, kind: Kind) -> Result<Plan, Memory>
 /// Such a domain, with a lock of this kind, and its processors.
 pub(crate) fn open(alloc: Global, mode: Mode, kind: Kind) -> Result<(Domain, List<Cpu>), Memory>
     requires awake { halts mode ≡ false }
+    ensures awake { IfOk result (λ made. halts made.0.plan.mode ≡ false) }
     ensures locks { IfOk result (λ made. locks_of made.0.plan ≡ 1) }
     ensures kind { IfOk result (λ made. kind_at made.0.plan 0 ≡ kind) }
     ensures many { IfOk result (λ made. length made.1.items ≡ 2) }
@@ -50,6 +51,7 @@ pub(crate) fn open(alloc: Global, mode: Mode, kind: Kind) -> Result<(Domain, Lis
 
 /// The last processor of a domain.
 pub(crate) fn last(cpus: &mut List<Cpu>, domain: &Domain) -> Cpu
+    requires awake { halts domain.now.plan.mode ≡ false }
     requires some { 0 < length cpus.old.items }
     requires rest { AllRest domain.now cpus.old.items }
     ensures domain { IsOf result domain.now }

@@ -3,6 +3,7 @@ ghost use Rattle.std.specs.Prelude.{◌≡◌, Some, false};
 ghost use Rattle.lk_abs.specs.declared.holder.Manner.TheVariants.{Reads};
 ghost use Rattle.lk_abs.specs.declared.names.Kind.TheVariants.{Rw};
 ghost use Rattle.lk_law.specs.Agree.{halts};
+ghost use Rattle.lk_domain.specs.Seats.{IsOf};
 ghost use Rattle.lk_run.specs.declared.write_waiter.WriteWaiter.{WriteWaiter};
 ghost use Rattle.lk_polled_tests.specs.Stages.{Has, MayBegin, Writing};
 
@@ -40,7 +41,8 @@ fn begins(cpu: &mut Cpu, domain: &Domain) -> Option<WriteWaiter>
 // Goes on with it.
 fn polls(cpu: &mut Cpu, domain: &Domain, waiter: WriteWaiter) -> Option<WriteWaiter>
     requires { Writing domain.now waiter cpu.old }
-    ensures { (w : WriteWaiter) → result ≡ Some w → Writing domain.now w cpu.new }
+    ensures domain { IsOf cpu.new domain.now }
+    ensures waits { (w : WriteWaiter) → result ≡ Some w → Writing domain.now w cpu.new }
 {
     poll_write(cpu, domain, waiter)
 }

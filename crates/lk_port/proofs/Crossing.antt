@@ -22,7 +22,6 @@ use Rattle.lk_port.proofs.pending.Pending.TheSendSync as pending
 use Rattle.lk_domain.specs.contracts.domain.Domain as Domain
 use Rattle.lk_domain.specs.contracts.plan.Plan as Plan
 use Rattle.lk_pvdomain.proofs.PvSeating.{pv_domain_sync}
-use Rattle.lk_pvdomain.proofs.cpu.PvCpu.TheSendSync as pv_cpu
 use Rattle.lk_pvdomain.proofs.waiter.PvWaiter.TheSendSync as pv_waiter
 use Rattle.lk_pvdomain.specs.contracts.domain.PvDomain as PvDomain
 use Rattle.lk_port.specs.contracts.any_port.AnyPort as AnyPort
@@ -47,17 +46,20 @@ port_field_send =
 
 -- and where its family halts
 
+domain_field_send : IsSend Domain.the_field.row
+domain_field_send =
+    search (sendable, crosses, domain_send, plan_send, table.the_send, table.the_field_send, stowed.the_send, stowed.the_field_send, option.the_send, option.the_field_send, global.the_send, global.the_sync, order.the_send, order.the_sync) depth 40
+
 pub pv_domain_send : IsSend PvDomain.the_row
-pv_domain_send =
-    search (sendable, crosses, plan_send, table.the_send, table.the_field_send, stowed.the_send, stowed.the_field_send, option.the_send, option.the_field_send, global.the_send, global.the_sync, order.the_send, order.the_sync) depth 40
+pv_domain_send = search (sendable, crosses, domain_send, domain_field_send) depth 40
 
 pub pv_port_send : IsSend PvPort.the_row
 pv_port_send =
-    search (sendable, crosses, pv_domain_send, pv_domain_sync, pv_cpu.the_send, pv_cpu.the_field_send, pv_waiter.the_send, pv_waiter.the_field_send, list.the_send, option.the_send, option.the_field_send, global.the_send, global.the_sync) depth 40
+    search (sendable, crosses, pv_domain_send, pv_domain_sync, cpu.the_send, cpu.the_field_send, pv_waiter.the_send, pv_waiter.the_field_send, list.the_send, option.the_send, option.the_field_send, global.the_send, global.the_sync) depth 40
 
 pub pv_port_field_send : IsSend PvPort.the_field.row
 pv_port_field_send =
-    search (sendable, crosses, pv_port_send, pv_domain_send, pv_domain_sync, pv_cpu.the_send, pv_cpu.the_field_send, pv_waiter.the_send, pv_waiter.the_field_send, list.the_send, option.the_send, option.the_field_send, global.the_send, global.the_sync) depth 40
+    search (sendable, crosses, pv_port_send, pv_domain_send, pv_domain_sync, cpu.the_send, cpu.the_field_send, pv_waiter.the_send, pv_waiter.the_field_send, list.the_send, option.the_send, option.the_field_send, global.the_send, global.the_sync) depth 40
 
 pub any_send : IsSend AnyPort.the_row
 any_send = search (sendable, crosses, port_field_send, pv_port_field_send, port_send, pv_port_send) depth 40

@@ -17,12 +17,14 @@ use Rattle.lk_domain.specs.Keeps.{Slot}
 use Rattle.lk_domain.specs.Ledgers.{Ledger}
 use Rattle.lk_domain.specs.Plans.{locks_of}
 use Rattle.lk_domain.specs.Plays.{carried_of}
+use Rattle.lk_domain.specs.declared.domain.Domain.{Domain}
 use Rattle.lk_domain.specs.declared.view.View.{View}
 use Rattle.lk_pvdomain.specs.PvCalls.{HasFreed, HasMissed, HasTakenBy, HasTakenSince, IsResting, own_node, without}
 use Rattle.lk_pvdomain.specs.PvPaths.{Ended, Start, Took, first_of, starting}
 use Rattle.lk_pvdomain.specs.PvRests.{Rests}
-use Rattle.lk_pvdomain.specs.PvSeats.{AreDealt, IsDealt, IsStill, calls_of, ledger_of}
-use Rattle.lk_pvdomain.specs.declared.cpu.PvCpu.{PvCpu}
+use Rattle.lk_domain.specs.Seats.{IsStill, calls_of, ledger_of}
+use Rattle.lk_pvdomain.specs.PvSeats.{AreDealt, IsDealt}
+use Rattle.lk_domain.specs.declared.cpu.Cpu.{Cpu}
 use Rattle.lk_pvdomain.specs.declared.domain.PvDomain.{PvDomain}
 use Rattle.lk_pvdomain.specs.declared.rest.PvRest.{PvRest}
 use Rattle.lk_pvdomain.specs.declared.rest.PvRest.TheVariants as rest
@@ -110,24 +112,24 @@ without_home n (h ∷ hs) e = by (same_lock h.lock n) (and_left (not h.out) (are
 -- it has taken a lock, missed it, or freed it
 
 pub took : (d : PvDomain) (v : Verb) (l : ℕ) (own : NodeName) (s : Start) (b : Seat Slot View) (bs : List Bool) → IsHome d bs s.holds s.ledger
-    → l < locks_of d.plan → Took d v l own s b → IsHome d (set bs l true) b.me.0.calls.holds b.me.0.ledger
+    → l < locks_of d.domain.plan → Took d.domain v l own s b → IsHome d (set bs l true) b.me.0.calls.holds b.me.0.ledger
 took d v l own s b bs was low has =
     record {
       out = ap (λ (g : Ledger). g.out) has.ledger ∙ (out_taken s.ledger l b.me.0.calls.last ∙ was.out);
       home = ap are_home has.holds ∙ was.home;
-      noted = subst (AreHeld (locks_of d.plan) (set bs l true)) (sym has.holds) (held_more 0 l b.me.0.calls.taken Spins low was.noted);
+      noted = subst (AreHeld (locks_of d.domain.plan) (set bs l true)) (sym has.holds) (held_more 0 l b.me.0.calls.taken Spins low was.noted);
     }
 
-pub missed : (d : PvDomain) (l : ℕ) (a b : PvCpu) (bs : List Bool) → IsHome d bs (calls_of a).holds (ledger_of a) → HasMissed d l a b
+pub missed : (d : PvDomain) (l : ℕ) (a b : Cpu) (bs : List Bool) → IsHome d bs (calls_of a).holds (ledger_of a) → HasMissed d l a b
     → IsHome d bs (calls_of b).holds (ledger_of b)
 missed d l a b bs was miss =
     record {
       out = ap (λ (g : Ledger). g.out) miss.missed.ledger ∙ was.out;
       home = ap are_home miss.missed.holds ∙ was.home;
-      noted = subst (AreHeld (locks_of d.plan) bs) (sym miss.missed.holds) was.noted;
+      noted = subst (AreHeld (locks_of d.domain.plan) bs) (sym miss.missed.holds) was.noted;
     }
 
-pub freed : (d : PvDomain) (l : ℕ) (a b : PvCpu) (bs : List Bool) → IsHome d bs (calls_of a).holds (ledger_of a) → l < locks_of d.plan
+pub freed : (d : PvDomain) (l : ℕ) (a b : Cpu) (bs : List Bool) → IsHome d bs (calls_of a).holds (ledger_of a) → l < locks_of d.domain.plan
     → HasFreed d l a b → (calls_of b).holds ≡ without (lock_name l) (calls_of a).holds
     → IsHome d (set bs l false) (calls_of b).holds (ledger_of b)
 freed d l a b bs was low free others =
@@ -138,29 +140,29 @@ freed d l a b bs was low free others =
     }
 
 -- a port no call of which waits
-pub rests : (d : PvDomain) (bs : List Bool) (o : Option PvWaiter) (cpu : PvCpu) → o ≡ None → PvStands d bs o cpu
+pub rests : (d : PvDomain) (bs : List Bool) (o : Option PvWaiter) (cpu : Cpu) → o ≡ None → PvStands d bs o cpu
     → IsResting (calls_of cpu) × IsHome d bs (calls_of cpu).holds (ledger_of cpu)
 rests d bs o cpu e h = subst (λ (x : Option PvWaiter). PvStands d bs x cpu) e h
 
-pub stands : (d : PvDomain) (bs : List Bool) (o : Option PvWaiter) (cpu : PvCpu) → o ≡ None
+pub stands : (d : PvDomain) (bs : List Bool) (o : Option PvWaiter) (cpu : Cpu) → o ≡ None
     → IsResting (calls_of cpu) × IsHome d bs (calls_of cpu).holds (ledger_of cpu) → PvStands d bs o cpu
 stands d bs o cpu e h = subst (λ (x : Option PvWaiter). PvStands d bs x cpu) (sym e) h
 
 -- a try has ended
-pub tried_yes : (d : PvDomain) (l : ℕ) (a b : PvCpu) (bs : List Bool) → IsHome d bs (calls_of a).holds (ledger_of a)
-    → l < locks_of d.plan → HasTakenBy Try d l a b → IsResting (calls_of b) × IsHome d (set bs l true) (calls_of b).holds (ledger_of b)
+pub tried_yes : (d : PvDomain) (l : ℕ) (a b : Cpu) (bs : List Bool) → IsHome d bs (calls_of a).holds (ledger_of a)
+    → l < locks_of d.domain.plan → HasTakenBy Try d l a b → IsResting (calls_of b) × IsHome d (set bs l true) (calls_of b).holds (ledger_of b)
 tried_yes d l a b bs was low has = (has.rests, took d Try l (own_node a) (first_of Try l a.seat) b.seat bs was low has.took)
 
-pub locked : (d : PvDomain) (l : ℕ) (a b : PvCpu) (bs : List Bool) → IsHome d bs (calls_of a).holds (ledger_of a)
-    → l < locks_of d.plan → HasTakenBy Lock d l a b → IsResting (calls_of b) × IsHome d (set bs l true) (calls_of b).holds (ledger_of b)
+pub locked : (d : PvDomain) (l : ℕ) (a b : Cpu) (bs : List Bool) → IsHome d bs (calls_of a).holds (ledger_of a)
+    → l < locks_of d.domain.plan → HasTakenBy Lock d l a b → IsResting (calls_of b) × IsHome d (set bs l true) (calls_of b).holds (ledger_of b)
 locked d l a b bs was low has = (has.rests, took d Lock l (own_node a) (first_of Lock l a.seat) b.seat bs was low has.took)
 
-pub polled : (d : PvDomain) (l : ℕ) (s : Start) (b : PvCpu) (bs : List Bool) → IsHome d bs s.holds s.ledger
-    → l < locks_of d.plan → HasTakenSince d l s b → IsResting (calls_of b) × IsHome d (set bs l true) (calls_of b).holds (ledger_of b)
+pub polled : (d : PvDomain) (l : ℕ) (s : Start) (b : Cpu) (bs : List Bool) → IsHome d bs s.holds s.ledger
+    → l < locks_of d.domain.plan → HasTakenSince d l s b → IsResting (calls_of b) × IsHome d (set bs l true) (calls_of b).holds (ledger_of b)
 polled d l s b bs was low has = (has.rests, took d Lock l (own_node b) s b.seat bs was low has.took)
 
 -- what a call holds that waits or has halted, is what it held when it began
-rest_holds : (d : PvDomain) (l : ℕ) (own : NodeName) (r : PvRest) (s : Start) (a : Seat Slot View) → Rests d l own r s a → a.me.0.calls.holds ≡ s.holds
+rest_holds : (d : Domain) (l : ℕ) (own : NodeName) (r : PvRest) (s : Start) (a : Seat Slot View) → Rests d l own r s a → a.me.0.calls.holds ≡ s.holds
 rest_holds d l own rest.Looks s a h = h.holds
 rest_holds d l own (rest.Steals x) s a h = h.holds
 rest_holds d l own (rest.Joins x) s a h = h.holds
@@ -174,14 +176,14 @@ rest_holds d l own rest.Hands s a h = h.holds
 rest_holds d l own (rest.EnlistsNext x) s a h = h.1.holds
 
 -- so the port has noted what is held, at any time
-pub noted : (d : PvDomain) (bs : List Bool) (o : Option PvWaiter) (cpu : PvCpu) → PvStands d bs o cpu
-    → AreHeld (locks_of d.plan) bs (calls_of cpu).holds
+pub noted : (d : PvDomain) (bs : List Bool) (o : Option PvWaiter) (cpu : Cpu) → PvStands d bs o cpu
+    → AreHeld (locks_of d.domain.plan) bs (calls_of cpu).holds
 noted d bs None cpu h = h.1.noted
 noted d bs (Some w) cpu h =
-    subst (AreHeld (locks_of d.plan) bs) (sym (rest_holds d w.lock.index (own_node cpu) w.rest h.0 cpu.seat h.2.rests)) h.1.noted
+    subst (AreHeld (locks_of d.domain.plan) bs) (sym (rest_holds d.domain w.lock.index (own_node cpu) w.rest h.0 cpu.seat h.2.rests)) h.1.noted
 
 -- a release that has not freed the lock
-pub still : (d : PvDomain) (bs : List Bool) (a b : PvCpu) → IsStill a b
+pub still : (d : PvDomain) (bs : List Bool) (a b : Cpu) → IsStill a b
     → IsResting (calls_of a) × IsHome d bs (calls_of a).holds (ledger_of a) → IsResting (calls_of b) × IsHome d bs (calls_of b).holds (ledger_of b)
 still d bs a b is h =
     subst (λ (v : View). IsResting v.calls × IsHome d bs v.calls.holds v.ledger) (sym is.view) h
@@ -206,19 +208,19 @@ pub may_still : {a b : PvPort} (k : Kind) (l : ℕ) (held : Bool) → PvStays a 
 may_still {a} {b} k l held x may =
     record {
       free = x.pending ∙ may.free;
-      lock = subst (λ (d : PvDomain). l < locks_of d.plan) (sym (ap arc_value x.domain)) may.lock;
+      lock = subst (λ (d : PvDomain). l < locks_of d.domain.plan) (sym (ap arc_value x.domain)) may.lock;
       kind = may.kind;
       holds = ap (λ (v : View). holds_in v.calls.holds l) x.cpu.view ∙ may.holds;
     }
 
-freed_since : (d : PvDomain) (l : ℕ) (a b c : PvCpu) → IsStill a b → HasFreed d l b c → HasFreed d l a c
+freed_since : (d : PvDomain) (l : ℕ) (a b c : Cpu) → IsStill a b → HasFreed d l b c → HasFreed d l a c
 freed_since d l a b c is free =
     let slots = b.carried ∙ (ap carried_of is.view ∙ sym a.carried) in
     let own : own_node b ≡ own_node a = λ i. record { cpu = is.number i; index = 0 } in
     let start : first_of Unlock l b.seat ≡ first_of Unlock l a.seat = λ i. starting Unlock l (is.table i) (is.id i) (is.view i, slots i) in
     record {
-      ended = subst (λ (n : NodeName). Ended d Unlock l n (first_of Unlock l a.seat) Frees c.seat) own
-          (subst (λ (s : Start). Ended d Unlock l (own_node b) s Frees c.seat) start free.ended);
+      ended = subst (λ (n : NodeName). Ended d.domain Unlock l n (first_of Unlock l a.seat) Frees c.seat) own
+          (subst (λ (s : Start). Ended d.domain Unlock l (own_node b) s Frees c.seat) start free.ended);
       none = free.none;
       rests = free.rests;
     }
@@ -233,10 +235,10 @@ pub refused : (p : PvPort) (k : Kind) (l : ℕ) (a b : Answer) → a ≡ b → P
 refused p k l a b is why = subst (PvRefuses p k l) is why
 
 -- a new one
-pub dealt : {domain : PvDomain} {i : ℕ} {cpu : PvCpu} {bs : List Bool} → bs ≡ replicate (locks_of domain.plan) false
+pub dealt : {domain : PvDomain} {i : ℕ} {cpu : Cpu} {bs : List Bool} → bs ≡ replicate (locks_of domain.domain.plan) false
     → IsDealt domain i cpu → IsResting (calls_of cpu) × IsHome domain bs (calls_of cpu).holds (ledger_of cpu)
 dealt {domain} {i} {cpu} {bs} none d =
-    let n = locks_of domain.plan in (
+    let n = locks_of domain.domain.plan in (
       record {
         frames = ap (λ (c : Calls). c.frames) d.calls;
         awake = ap (λ (c : Calls). c.halted) d.calls;
@@ -253,21 +255,21 @@ dealt {domain} {i} {cpu} {bs} none d =
       },
     )
 
-one_less : (all xs : List PvCpu) (x : PvCpu) → all ≡ xs ++ x ∷ [] → length xs + 1 ≡ length all
-one_less all xs x is = sym (ap (λ (ys : List PvCpu). length ys) is ∙ length-append xs (x ∷ []))
+one_less : (all xs : List Cpu) (x : Cpu) → all ≡ xs ++ x ∷ [] → length xs + 1 ≡ length all
+one_less all xs x is = sym (ap (λ (ys : List Cpu). length ys) is ∙ length-append xs (x ∷ []))
 
 -- the last of those that were dealt, and the others
 
-pub dealt_last : (domain : PvDomain) (all xs : List PvCpu) (x : PvCpu) → AreDealt domain all → all ≡ xs ++ x ∷ [] → IsDealt domain (length xs) x
+pub dealt_last : (domain : PvDomain) (all xs : List Cpu) (x : Cpu) → AreDealt domain all → all ≡ xs ++ x ∷ [] → IsDealt domain (length xs) x
 dealt_last domain all xs x dealt is =
     let n = one_less all xs x is in
     subst (IsDealt domain (length xs))
-    (ap (λ (ys : List PvCpu). slice_index_or ys (length xs) x) is ∙ get_or_push xs x x (length xs) refl)
+    (ap (λ (ys : List Cpu). slice_index_or ys (length xs) x) is ∙ get_or_push xs x x (length xs) refl)
     (dealt (length xs) x (omega (arith, n)))
 
-pub dealt_rest : (domain : PvDomain) (all xs : List PvCpu) (x : PvCpu) → AreDealt domain all → all ≡ xs ++ x ∷ [] → AreDealt domain xs
+pub dealt_rest : (domain : PvDomain) (all xs : List Cpu) (x : Cpu) → AreDealt domain all → all ≡ xs ++ x ∷ [] → AreDealt domain xs
 dealt_rest domain all xs x dealt is i d h =
     let n = one_less all xs x is in
     subst (IsDealt domain i)
-    (ap (λ (ys : List PvCpu). slice_index_or ys i d) is ∙ get_or_append_left xs (x ∷ []) d i h)
+    (ap (λ (ys : List Cpu). slice_index_or ys i d) is ∙ get_or_append_left xs (x ∷ []) d i h)
     (dealt i d (omega (arith, n, h)))

@@ -27,13 +27,13 @@ PvArePortsOf domain n ports = (i : ℕ) (p : PvPort) → i < length ports
 
 -- They are those of one domain of this plan.
 abbrev pub PvHasPlan : PvPlan → ℕ → List PvPort → Type 0
-PvHasPlan p n ports = (domain : PvDomain) × IsPlanOf p domain.plan × PvArePortsOf domain n ports
+PvHasPlan p n ports = (domain : PvDomain) × IsPlanOf p domain.domain.plan × PvArePortsOf domain n ports
 
 -- Of one domain that was asked for there is a port for each processor, the last one first.
 pub record PvAreOpened (locks cpus spins : ℕ) (ports : List PvPort) : Type 0 where
   pub asked : PvPlan
   pub is : PvIsAsked locks cpus spins asked
   pub domain : PvDomain
-  pub plan : IsPlanOf asked domain.plan
+  pub plan : IsPlanOf asked domain.domain.plan
   pub many : length ports ≡ cpus
   pub each : PvArePortsOf domain cpus ports

@@ -8,7 +8,7 @@ use Rattle.lk_domain.specs.Calls.{holds_in}
 use Rattle.lk_domain.specs.Plans.{locks_of}
 use Rattle.lk_pvdomain.specs.PvCalls.{HasFreed, HasMissed, HasTakenBy, HasTakenSince}
 use Rattle.lk_pvdomain.specs.PvPaths.{Start}
-use Rattle.lk_pvdomain.specs.PvSeats.{IsStill, calls_of}
+use Rattle.lk_domain.specs.Seats.{IsStill, calls_of}
 use Rattle.lk_pvdomain.specs.PvTurns.{Waits}
 use Rattle.lk_pvdomain.specs.declared.domain.PvDomain.{PvDomain}
 use Rattle.lk_pvdomain.specs.declared.waiter.PvWaiter.{PvWaiter}
@@ -30,7 +30,7 @@ is_halted p = (calls_of p.cpu).halted
 -- The port refuses a call on a lock of this kind with this answer. All its locks are spinlocks.
 abbrev pub PvRefuses : PvPort → Kind → ℕ → Answer → Type 0
 PvRefuses p k l answer.Pending = p.pending ≢ None
-PvRefuses p k l answer.NoLock = locks_of (pv_domain_in p).plan ≤ l
+PvRefuses p k l answer.NoLock = locks_of (pv_domain_in p).domain.plan ≤ l
 PvRefuses p k l answer.WrongKind = k ≢ Spin
 PvRefuses p k l answer.Held = pv_has p l ≡ true
 PvRefuses p k l answer.NotHeld = pv_has p l ≡ false
@@ -39,7 +39,7 @@ PvRefuses p k l _ = ⊥
 -- no call waits, and the lock is one of this kind, which the processor holds or not
 pub record PvMayCall (p : PvPort) (k : Kind) (l : ℕ) (held : Bool) : Type 0 where
   pub free : p.pending ≡ None
-  pub lock : l < locks_of (pv_domain_in p).plan
+  pub lock : l < locks_of (pv_domain_in p).domain.plan
   pub kind : k ≡ Spin
   pub holds : pv_has p l ≡ held
 

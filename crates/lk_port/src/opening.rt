@@ -59,7 +59,8 @@ fn unwritten(alloc: Global, domain: &Domain) -> Result<List<bool>, Memory>
 
 // The port of a new processor.
 fn port(alloc: Global, domain: &Arc<Domain, Global>, cpu: Cpu) -> Result<Port, Fault>
-    requires { (i : ℕ) × IsDealt (arc_value domain.now) i cpu }
+    requires dealt { (i : ℕ) × IsDealt (arc_value domain.now) i cpu }
+    requires awake { halts (arc_value domain.now).plan.mode ≡ false }
     ensures domain { IfOk result (λ port. domain_in port ≡ arc_value domain.now) }
     ensures cpu { IfOk result (λ port. (cpu_in port).number ≡ cpu.number) }
 {

@@ -13,7 +13,7 @@ use lk_pvdomain::PvDomain;
 impl PvPort {
     // Whether it holds a lock of its domain.
     fn has(&self, lock: LockId) -> bool
-        requires { lock.index < locks_of (pv_domain_in self.now).plan }
+        requires { lock.index < locks_of (pv_domain_in self.now).domain.plan }
         ensures { result ≡ pv_has self.now lock.index }
     {
         self.stands();

@@ -21,7 +21,7 @@ const MOST_SPINS: u32 = 65_535;
 
 // For each lock of the domain, that it is not held.
 fn unheld(alloc: Global, domain: &PvDomain) -> Result<List<bool>, Memory>
-    ensures { IfOk result (λ held. held.items ≡ replicate (locks_of domain.now.plan) false) }
+    ensures { IfOk result (λ held. held.items ≡ replicate (locks_of domain.now.domain.plan) false) }
 {
     List::filled(alloc, false, domain.locks() as usize)
 }

@@ -9,7 +9,6 @@ pub mod PvEntries
 pub mod Spared
 pub mod Quits
 pub mod PvRunning
-pub mod Dealing
 pub mod PvSeating
 pub mod HashMaps
 pub mod OnHash

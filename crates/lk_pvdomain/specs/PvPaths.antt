@@ -11,6 +11,7 @@ use Rattle.lk_rows.specs.declared.parts.Frame.{Frame}
 use Rattle.lk_rows.specs.declared.parts.Pc.{Pc}
 use Rattle.lk_rows.specs.declared.setup.Verb.{Verb}
 use Rattle.lk_rows.specs.declared.setup.Verb.TheVariants.{Lock}
+use Rattle.lk_law.specs.Agree.{halts}
 use Rattle.lk_law.specs.Leads.{Met}
 use Rattle.lk_domain.specs.Calls.{Terms, Mark, mark, Running, Hold, hold, Grip, Takes, Frees, read_at, sight_of}
 use Rattle.lk_domain.specs.Calls.{terms_of, begun, lock_name, running, holds_begun, holds_after, taken_after}
@@ -20,8 +21,8 @@ use Rattle.lk_domain.specs.Paths.{next_frame, row_grip}
 use Rattle.lk_domain.specs.Plans.{locks_of}
 use Rattle.lk_domain.specs.Who.{Who}
 use Rattle.lk_domain.specs.Words.{IsNode}
+use Rattle.lk_domain.specs.declared.domain.Domain.{Domain}
 use Rattle.lk_domain.specs.declared.view.View.{View}
-use Rattle.lk_pvdomain.specs.declared.domain.PvDomain.{PvDomain}
 use Rattle.lk_pvdomain.specs.PvPlays.{woken}
 
 -- The rows of the list lead from the frame a to the frame at the end. Where its processor had halted,
@@ -75,27 +76,36 @@ starting v l table id m =
 abbrev pub first_of : Verb → ℕ → Seat Slot View → Start
 first_of v l a = starting v l a.table_id a.id a.me
 
--- it is a processor of the domain: its first node is this
-pub record IsSeat (d : PvDomain) (own : NodeName) (table : TableId) (m : Me Slot View) : Type 0 where
+-- the node of the calls of a processor, which is its first
+abbrev pub first_node : ℕ → NodeName
+first_node cpu = record { cpu = cpu; index = 0 }
+
+-- it is a processor of the domain, which halts: its first node is this
+pub record IsSeat (d : Domain) (own : NodeName) (table : TableId) (m : Me Slot View) : Type 0 where
   pub table_is : table ≡ d.table.shared.table_id
   pub plan : m.0.who.plan ≡ d.plan
+  pub halting : halts d.plan.mode ≡ true
   pub number : m.0.who.number ≡ Some own.cpu
   pub near : IsNode d.plan own
   pub index : own.index ≡ 0
 
+-- it is one of them
+abbrev pub IsOn : Domain → Seat Slot View → Type 0
+IsOn d a = (own : NodeName) × IsSeat d own a.table_id a.me
+
 -- it is in no call, and has not halted
-pub record RestsOn (d : PvDomain) (own : NodeName) (table : TableId) (m : Me Slot View) : Type 0 where
+pub record RestsOn (d : Domain) (own : NodeName) (table : TableId) (m : Me Slot View) : Type 0 where
   pub of : IsSeat d own table m
   pub frames : m.0.calls.frames ≡ []
   pub awake : m.0.calls.halted ≡ false
   pub fresh : m.0.calls.looked ≡ 0
 
-abbrev pub Rests : PvDomain → NodeName → Seat Slot View → Type 0
+abbrev pub Rests : Domain → NodeName → Seat Slot View → Type 0
 Rests d own a = RestsOn d own a.table_id a.me
 
 -- The call of this operation on the lock l, which began so, stands at the row c, its processor has not
 -- halted, and its frame meets the condition.
-pub record AtOn (d : PvDomain) (v : Verb) (l : ℕ) (own : NodeName) (s : Start) (c : Pc) (condition : Frame → Type 0)
+pub record AtOn (d : Domain) (v : Verb) (l : ℕ) (own : NodeName) (s : Start) (c : Pc) (condition : Frame → Type 0)
     (table : TableId) (id : ℕ) (m : Me Slot View) : Type 0 where
   pub of : IsSeat d own table m
   pub low : l < locks_of d.plan
@@ -117,11 +127,11 @@ pub record AtOn (d : PvDomain) (v : Verb) (l : ℕ) (own : NodeName) (s : Start)
   pub ctx : frame.ctx ≡ 0
   pub has : condition frame
 
-abbrev pub At : PvDomain → Verb → ℕ → NodeName → Start → Pc → (Frame → Type 0) → Seat Slot View → Type 0
+abbrev pub At : Domain → Verb → ℕ → NodeName → Start → Pc → (Frame → Type 0) → Seat Slot View → Type 0
 At d v l own s c P a = AtOn d v l own s c P a.table_id a.id a.me
 
 -- The call, which began so, has halted at the row c. Once its halt ends it stands at the row behind it.
-pub record HaltedOn (d : PvDomain) (v : Verb) (l : ℕ) (own : NodeName) (s : Start) (c e : Pc) (condition : Frame → Type 0)
+pub record HaltedOn (d : Domain) (v : Verb) (l : ℕ) (own : NodeName) (s : Start) (c e : Pc) (condition : Frame → Type 0)
     (table : TableId) (id : ℕ) (m : Me Slot View) : Type 0 where
   pub asleep : m.0.calls.halted ≡ true
   pub call : Running
@@ -129,11 +139,11 @@ pub record HaltedOn (d : PvDomain) (v : Verb) (l : ℕ) (own : NodeName) (s : St
   pub place : call.frame.place ≡ Some c
   pub wakes : AtOn d v l own s e condition table id (woken m.0, m.1)
 
-abbrev pub Halted : PvDomain → ℕ → NodeName → Start → Pc → Pc → (Frame → Type 0) → Seat Slot View → Type 0
+abbrev pub Halted : Domain → ℕ → NodeName → Start → Pc → Pc → (Frame → Type 0) → Seat Slot View → Type 0
 Halted d l own s c e P a = HaltedOn d Lock l own s c e P a.table_id a.id a.me
 
 -- the call that began so is over, and its processor is in none
-pub record IsOver (d : PvDomain) (own : NodeName) (s : Start) (table : TableId) (id : ℕ) (m : Me Slot View) : Type 0 where
+pub record IsOver (d : Domain) (own : NodeName) (s : Start) (table : TableId) (id : ℕ) (m : Me Slot View) : Type 0 where
   pub of : IsSeat d own table m
   pub table_was : table ≡ s.table
   pub id_was : id ≡ s.id
@@ -144,7 +154,7 @@ pub record IsOver (d : PvDomain) (own : NodeName) (s : Start) (table : TableId) 
   pub fresh : m.0.calls.looked ≡ 0
 
 -- it has taken the lock, by its last row
-pub record TookOn (d : PvDomain) (v : Verb) (l : ℕ) (own : NodeName) (s : Start) (table : TableId) (id : ℕ)
+pub record TookOn (d : Domain) (v : Verb) (l : ℕ) (own : NodeName) (s : Start) (table : TableId) (id : ℕ)
     (m : Me Slot View) : Type 0 where
   pub over : IsOver d own s table id m
   pub path : PvPath (terms_of d.plan) own.cpu (begun d.plan.mode 0 v l) m.0.calls.last (Takes Spins)
@@ -152,11 +162,11 @@ pub record TookOn (d : PvDomain) (v : Verb) (l : ℕ) (own : NodeName) (s : Star
   pub taken : m.0.calls.taken ≡ s.taken + 1
   pub ledger : m.0.ledger ≡ turned s.ledger (lock_name l) (Takes Spins) m.0.calls.last
 
-abbrev pub Took : PvDomain → Verb → ℕ → NodeName → Start → Seat Slot View → Type 0
+abbrev pub Took : Domain → Verb → ℕ → NodeName → Start → Seat Slot View → Type 0
 Took d v l own s a = TookOn d v l own s a.table_id a.id a.me
 
 -- The call is over by its last row, which has done this to the holds: it has missed the lock, or freed it.
-pub record EndedOn (d : PvDomain) (v : Verb) (l : ℕ) (own : NodeName) (s : Start) (grip : Grip) (table : TableId) (id : ℕ)
+pub record EndedOn (d : Domain) (v : Verb) (l : ℕ) (own : NodeName) (s : Start) (grip : Grip) (table : TableId) (id : ℕ)
     (m : Me Slot View) : Type 0 where
   pub over : IsOver d own s table id m
   pub path : PvPath (terms_of d.plan) own.cpu (begun d.plan.mode 0 v l) m.0.calls.last grip
@@ -164,7 +174,7 @@ pub record EndedOn (d : PvDomain) (v : Verb) (l : ℕ) (own : NodeName) (s : Sta
   pub taken : m.0.calls.taken ≡ taken_after grip s.taken
   pub ledger : m.0.ledger ≡ turned s.ledger (lock_name l) grip m.0.calls.last
 
-abbrev pub Ended : PvDomain → Verb → ℕ → NodeName → Start → Grip → Seat Slot View → Type 0
+abbrev pub Ended : Domain → Verb → ℕ → NodeName → Start → Grip → Seat Slot View → Type 0
 Ended d v l own s grip a = EndedOn d v l own s grip a.table_id a.id a.me
 
 -- the release has freed the lock, and is about to kick

@@ -6,9 +6,9 @@ use Rattle.lk_rows.specs.declared.parts.Pc.TheVariants.{E2, E4, E6, E12, E14, G4
 use Rattle.lk_rows.specs.declared.setup.Verb.TheVariants.{Lock}
 use Rattle.lk_domain.specs.Keeps.{Slot}
 use Rattle.lk_domain.specs.Words.{IsNode}
+use Rattle.lk_domain.specs.declared.domain.Domain.{Domain}
 use Rattle.lk_domain.specs.declared.view.View.{View}
 use Rattle.lk_pvdomain.specs.PvPaths.{At, Halted, Start, Took, Owns, Steals, Follows, Spares, Leads, Tries, Precedes}
-use Rattle.lk_pvdomain.specs.declared.domain.PvDomain.{PvDomain}
 use Rattle.lk_pvdomain.specs.declared.rest.PvRest.{PvRest}
 use Rattle.lk_pvdomain.specs.declared.rest.PvRest.TheVariants as rest
 
@@ -20,7 +20,7 @@ is_asleep _ = false
 
 -- The call on the lock l, which began so, rests there: the row at which it stands, or has halted, and what
 -- its frame has there.
-abbrev pub Rests : PvDomain → ℕ → NodeName → PvRest → Start → Seat Slot View → Type 0
+abbrev pub Rests : Domain → ℕ → NodeName → PvRest → Start → Seat Slot View → Type 0
 Rests d l own rest.Looks s a = At d Lock l own s H1 (Owns own) a
 Rests d l own (rest.Steals x) s a = At d Lock l own s H2 (Steals own x.tailed) a
 Rests d l own (rest.Joins met) s a = At d Lock l own s G4 (Owns own) a
@@ -34,7 +34,7 @@ Rests d l own rest.Hands s a = At d Lock l own s E14 (Owns own) a
 Rests d l own (rest.EnlistsNext to) s a = IsNode d.plan to × At d Lock l own s K3 (Precedes own to) a
 
 -- what a turn of it came to: the processor has the lock, or the call rests
-abbrev pub Comes : PvDomain → ℕ → NodeName → Option PvRest → Start → Seat Slot View → Type 0
+abbrev pub Comes : Domain → ℕ → NodeName → Option PvRest → Start → Seat Slot View → Type 0
 Comes d l own None s a = Took d Lock l own s a
 Comes d l own (Some r) s a = Rests d l own r s a
 

@@ -5,7 +5,7 @@ use Rattle.lk_domain.specs.declared.domain.LockId.{LockId}
 use Rattle.lk_pvdomain.specs.PvCalls.{own_node}
 use Rattle.lk_pvdomain.specs.PvPaths.{Start}
 use Rattle.lk_pvdomain.specs.PvRests.{Rests}
-use Rattle.lk_pvdomain.specs.declared.cpu.PvCpu.{PvCpu}
+use Rattle.lk_domain.specs.declared.cpu.Cpu.{Cpu}
 use Rattle.lk_pvdomain.specs.declared.domain.PvDomain.{PvDomain}
 use Rattle.lk_pvdomain.specs.declared.rest.PvRest.{PvRest}
 use Rattle.lk_pvdomain.specs.declared.waiter.PvTurn.{PvTurn}
@@ -13,9 +13,9 @@ use Rattle.lk_pvdomain.specs.declared.waiter.PvTurn.TheVariants.{Has, Waits as A
 use Rattle.lk_pvdomain.specs.declared.waiter.PvWaiter.{PvWaiter}
 
 -- the call that began so waits there, or has halted there
-pub record Waits (d : PvDomain) (w : PvWaiter) (s : Start) (cpu : PvCpu) : Type 0 where
-  pub low : w.lock.index < locks_of d.plan
-  pub rests : Rests d w.lock.index (own_node cpu) w.rest s cpu.seat
+pub record Waits (d : PvDomain) (w : PvWaiter) (s : Start) (cpu : Cpu) : Type 0 where
+  pub low : w.lock.index < locks_of d.domain.plan
+  pub rests : Rests d.domain w.lock.index (own_node cpu) w.rest s cpu.seat
 
 -- the call with which a turn leaves, and whether its processor has halted
 

@@ -1,55 +1,20 @@
 // The calls of a processor whose family halts.
 ghost use Rattle.std.specs.Prelude.{◌≡◌, ◌<◌, true, false, None};
-ghost use Rattle.lk_rows.specs.declared.parts.Pc.TheVariants.{G1};
-ghost use Rattle.lk_rows.specs.declared.setup.Verb.TheVariants.{Lock, Try, Unlock};
-ghost use Rattle.lk_domain.specs.Calls.{Frees, Unchanged, holds_in, lock_name};
+ghost use Rattle.lk_rows.specs.declared.setup.Verb.TheVariants.{Try};
+ghost use Rattle.lk_domain.specs.Calls.{holds_in, lock_name};
 ghost use Rattle.lk_domain.specs.Ledgers.{is_first};
-ghost use Rattle.lk_domain.specs.Paths.{Any};
 ghost use Rattle.lk_domain.specs.Plans.{locks_of};
 ghost use Rattle.lk_domain.specs.Values.{out_in};
-ghost use Rattle.lk_pvdomain.specs.PvSeats.{IsOf, IsSame, IsStill, calls_of, ledger_of};
+ghost use Rattle.lk_domain.specs.Seats.{IsSame, IsStill, calls_of, ledger_of};
+ghost use Rattle.lk_pvdomain.specs.PvSeats.{IsOf};
 ghost use Rattle.lk_pvdomain.specs.PvCalls.{HasFreed, HasMissed, HasTaken, HasTakenBy, IsResting, without};
-ghost use Rattle.lk_pvdomain.specs.PvPaths.{At, Ended, Rests, Start, Took, first_of};
 ghost use Rattle.lk_pvdomain.specs.PvReleases.{has_freed, kicked_in, whom};
 
-use crate::call::Queued;
-use crate::cpu::PvCpu;
-use crate::domain::PvDomain;
+use crate::domain::{PvCpu, PvDomain};
 use crate::freeing::PvRelease;
-use crate::{freeing, tries};
-use lk_domain::{LockId, Right, moves};
-use lk_word::{HELD, NodeName};
+use crate::halting;
+use lk_domain::LockId;
 use std::sync::Wait;
-
-// The row F1. Returns whether it acquired the lock.
-#[inline]
-pub(crate) fn fast(seat: &mut Right, domain: &PvDomain, lock: u32) -> bool
-    requires rests { (own : NodeName) × Rests domain.now own seat.old }
-    requires lock { lock < locks_of domain.now.plan }
-    requires free { holds_in seat.old.me.0.calls.holds lock ≡ false }
-    ensures took { result ≡ true → (own : NodeName) → Rests domain.now own seat.old
-        → Took domain.now Lock lock own (first_of Lock lock seat.old) seat.new }
-    ensures goes { result ≡ false → (own : NodeName) → Rests domain.now own seat.old
-        → At domain.now Lock lock own (first_of Lock lock seat.old) G1 Any seat.new }
-{
-    if moves::take_free(seat, &domain.table, &domain.plan, lock) == 0 {
-        return true;
-    }
-    false
-}
-
-// From G1, until it holds the lock. It is a function of its own, to keep the code of an uncontended
-// call short. So it builds the value of the call, and `pv_lock` does not.
-#[cold]
-#[inline(never)]
-fn contend<R: Wait>(seat: &mut Right, rt: &R, domain: &PvDomain, lock: u32, own: NodeName)
-    requires at { (s : Start) × At domain.now Lock lock own s G1 Any seat.old }
-    ensures took { (s : Start) → At domain.now Lock lock own s G1 Any seat.old
-        → Took domain.now Lock lock own s seat.new }
-{
-    let call = Queued { domain, lock, own };
-    call.wait_on(seat, rt);
-}
 
 /// Acquires the lock, and returns once the processor holds it. A waiter spins for at most as many
 /// turns as the plan says. Then it halts until it is kicked. The processor must be in no call, and
@@ -62,20 +27,14 @@ fn contend<R: Wait>(seat: &mut Right, rt: &R, domain: &PvDomain, lock: u32, own:
 #[inline]
 pub fn pv_lock<R: Wait>(cpu: &mut PvCpu, rt: &R, domain: &PvDomain, lock: LockId)
     requires domain { IsOf cpu.old domain.now }
-    requires lock { lock.index < locks_of domain.now.plan }
+    requires lock { lock.index < locks_of domain.now.domain.plan }
     requires rests { IsResting (calls_of cpu.old) }
     requires free { holds_in (calls_of cpu.old).holds lock.index ≡ false }
     ensures same { IsSame cpu.old cpu.new }
     ensures taken { HasTaken domain.now lock.index cpu.old cpu.new }
 {
-    if fast(&mut cpu.seat, domain, lock.index) {
-        return;
-    }
-    let own = NodeName {
-        cpu: cpu.number,
-        index: 0,
-    };
-    contend(&mut cpu.seat, rt, domain, lock.index, own);
+    let number = cpu.number();
+    halting::lock(&mut cpu.seat, rt, &domain.domain, lock.index, number);
 }
 
 /// Releases a lock that the processor holds. If the locked byte is slow (Linux's `_Q_SLOW_VAL`), it
@@ -86,7 +45,7 @@ pub fn pv_lock<R: Wait>(cpu: &mut PvCpu, rt: &R, domain: &PvDomain, lock: LockId
 #[inline]
 pub fn pv_unlock<R: Wait>(cpu: &mut PvCpu, rt: &R, domain: &PvDomain, lock: LockId)
     requires domain { IsOf cpu.old domain.now }
-    requires lock { lock.index < locks_of domain.now.plan }
+    requires lock { lock.index < locks_of domain.now.domain.plan }
     requires rests { IsResting (calls_of cpu.old) }
     requires held { holds_in (calls_of cpu.old).holds lock.index ≡ true }
     requires home { is_first (lock_name lock.index) ≡ true → (ledger_of cpu.old).out ≡ None }
@@ -96,11 +55,7 @@ pub fn pv_unlock<R: Wait>(cpu: &mut PvCpu, rt: &R, domain: &PvDomain, lock: Lock
     ensures others { (calls_of cpu.new).holds
         ≡ without (lock_name lock.index) (calls_of cpu.old).holds }
 {
-    let met = tries::try_release(&mut cpu.seat, domain, lock.index, HELD);
-    if met == HELD {
-        return;
-    }
-    freeing::release(&mut cpu.seat, rt, domain, lock.index, met);
+    halting::unlock(&mut cpu.seat, rt, &domain.domain, lock.index);
 }
 
 /// Tries to release a lock that the processor holds, without waiting, and returns which processor it
@@ -111,7 +66,7 @@ pub fn pv_unlock<R: Wait>(cpu: &mut PvCpu, rt: &R, domain: &PvDomain, lock: Lock
 #[inline]
 pub fn pv_try_unlock(cpu: &mut PvCpu, domain: &PvDomain, lock: LockId) -> PvRelease
     requires domain { IsOf cpu.old domain.now }
-    requires lock { lock.index < locks_of domain.now.plan }
+    requires lock { lock.index < locks_of domain.now.domain.plan }
     requires rests { IsResting (calls_of cpu.old) }
     requires held { holds_in (calls_of cpu.old).holds lock.index ≡ true }
     requires home { is_first (lock_name lock.index) ≡ true → (ledger_of cpu.old).out ≡ None }
@@ -123,29 +78,7 @@ pub fn pv_try_unlock(cpu: &mut PvCpu, domain: &PvDomain, lock: LockId) -> PvRele
     ensures whom { has_freed result ≡ true → kicked_in (calls_of cpu.new).last ≡ whom result }
     ensures still { has_freed result ≡ false → IsStill cpu.old cpu.new }
 {
-    let met = tries::try_release(&mut cpu.seat, domain, lock.index, HELD);
-    if met == HELD {
-        return PvRelease::Freed;
-    }
-    freeing::try_once(&mut cpu.seat, domain, lock.index, met)
-}
-
-// The rows T1 and T2. Returns whether it acquired the lock.
-fn attempt(seat: &mut Right, domain: &PvDomain, lock: u32, own: NodeName) -> bool
-    requires rests { Rests domain.now own seat.old }
-    requires lock { lock < locks_of domain.now.plan }
-    requires free { holds_in seat.old.me.0.calls.holds lock ≡ false }
-    ensures took { result ≡ true → Took domain.now Try lock own (first_of Try lock seat.old) seat.new }
-    ensures missed { result ≡ false
-        → Ended domain.now Try lock own (first_of Try lock seat.old) Unchanged seat.new }
-{
-    if moves::look_once(seat, &domain.table, &domain.plan, lock) != 0 {
-        return false;
-    }
-    if moves::take_once(seat, &domain.table, &domain.plan, lock) == 0 {
-        return true;
-    }
-    false
+    halting::try_unlock(&mut cpu.seat, &domain.domain, lock.index)
 }
 
 /// Tries once to acquire the lock, without waiting. Returns `true` if the processor now holds it,
@@ -155,16 +88,13 @@ fn attempt(seat: &mut Right, domain: &PvDomain, lock: u32, own: NodeName) -> boo
 /// This is Linux's `queued_spin_trylock`.
 pub fn pv_try_lock(cpu: &mut PvCpu, domain: &PvDomain, lock: LockId) -> bool
     requires domain { IsOf cpu.old domain.now }
-    requires lock { lock.index < locks_of domain.now.plan }
+    requires lock { lock.index < locks_of domain.now.domain.plan }
     requires rests { IsResting (calls_of cpu.old) }
     requires free { holds_in (calls_of cpu.old).holds lock.index ≡ false }
     ensures same { IsSame cpu.old cpu.new }
     ensures taken { result ≡ true → HasTakenBy Try domain.now lock.index cpu.old cpu.new }
     ensures missed { result ≡ false → HasMissed domain.now lock.index cpu.old cpu.new }
 {
-    let own = NodeName {
-        cpu: cpu.number,
-        index: 0,
-    };
-    attempt(&mut cpu.seat, domain, lock.index, own)
+    let number = cpu.number();
+    halting::try_lock(&mut cpu.seat, &domain.domain, lock.index, number)
 }

@@ -12,10 +12,10 @@ ghost use Rattle.lk_pvdomain.specs.PvCalls.{HasTried, IsAsItWas};
 ghost use Rattle.lk_pvdomain.specs.PvPaths.{At, Ended, Start};
 ghost use Rattle.lk_pvdomain.specs.PvReleases.{has_freed, kicked_in, whom};
 
-use crate::domain::{CPU_PAIRS, PvDomain};
+use crate::layout::CPU_PAIRS;
 use crate::{hash, kicks, tries, words};
-use lk_domain::Right;
 use lk_domain::moves::WordUse;
+use lk_domain::{Domain, Right};
 use lk_word::{HELD, low_byte};
 use std::sync::Wait;
 
@@ -36,7 +36,7 @@ pub enum PvRelease {
 // short.
 #[cold]
 #[inline(never)]
-pub(crate) fn release<R: Wait>(seat: &mut Right, rt: &R, domain: &PvDomain, lock: u32, met: u64)
+pub(crate) fn release<R: Wait>(seat: &mut Right, rt: &R, domain: &Domain, lock: u32, met: u64)
     requires other { met ≢ 1 }
     requires tried { (own : NodeName) × (s : Start) × HasTried domain.now lock own s met seat.old }
     ensures freed { (own : NodeName) (s : Start) → HasTried domain.now lock own s met seat.old
@@ -56,7 +56,7 @@ pub(crate) fn release<R: Wait>(seat: &mut Right, rt: &R, domain: &PvDomain, lock
 // again, nothing has happened.
 #[cold]
 #[inline(never)]
-pub(crate) fn try_once(seat: &mut Right, domain: &PvDomain, lock: u32, met: u64) -> PvRelease
+pub(crate) fn try_once(seat: &mut Right, domain: &Domain, lock: u32, met: u64) -> PvRelease
     requires other { met ≢ 1 }
     requires tried { (own : NodeName) × (s : Start) × HasTried domain.now lock own s met seat.old }
     ensures freed { has_freed result ≡ true → (own : NodeName) (s : Start)
@@ -82,7 +82,7 @@ pub(crate) fn try_once(seat: &mut Right, domain: &PvDomain, lock: u32, met: u64)
 }
 
 // The rows U3 to U5, and then it wakes the thread of the processor that was kicked.
-fn wake_next(seat: &mut Right, domain: &PvDomain, lock: u32)
+fn wake_next(seat: &mut Right, domain: &Domain, lock: u32)
     requires at { (own : NodeName) × (s : Start) × At domain.now Unlock lock own s U3 Any seat.old }
     requires home { is_first (lock_name lock) ≡ true → seat.old.me.0.ledger.out ≡ None }
     requires value { out_in seat.old.me.0.calls.holds lock ≡ false }
@@ -90,12 +90,12 @@ fn wake_next(seat: &mut Right, domain: &PvDomain, lock: u32)
         → Ended domain.now Unlock lock own s Frees seat.new }
 {
     let kicked = kick_next(seat, domain, lock);
-    domain.wake(kicked);
+    kicks::wake_thread(domain, kicked);
 }
 
 // The rows U3 to U5: it takes the entry out of the hash, frees the lock, and kicks the processor of
 // the node that the entry named. Returns the number of that processor, and wakes no thread.
-fn kick_next(seat: &mut Right, domain: &PvDomain, lock: u32) -> u32
+fn kick_next(seat: &mut Right, domain: &Domain, lock: u32) -> u32
     requires at { (own : NodeName) × (s : Start) × At domain.now Unlock lock own s U3 Any seat.old }
     requires home { is_first (lock_name lock) ≡ true → seat.old.me.0.ledger.out ≡ None }
     requires value { out_in seat.old.me.0.calls.holds lock ≡ false }

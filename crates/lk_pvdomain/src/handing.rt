@@ -6,9 +6,9 @@ ghost use Rattle.lk_pvdomain.specs.PvWords.{IsNodeOf, Owns, Precedes, Steps, Tak
 ghost use Rattle.lk_word.specs.declared.spin_word.NodeName.{NodeName as Node};
 
 use crate::call::Queued;
-use crate::domain::HALTED;
 use crate::rest::PvRest;
-use crate::{hash, states, words};
+use crate::states::{self, HALTED};
+use crate::{hash, words};
 use lk_domain::met::{is_last, node_met};
 use lk_domain::moves::WordUse;
 use lk_domain::{Right, node_moves};

@@ -4,27 +4,26 @@ ghost use Rattle.lk_domain.specs.Calls.{lock_name};
 ghost use Rattle.lk_domain.specs.Plans.{locks_of};
 ghost use Rattle.lk_domain.specs.Plays.{Goes};
 ghost use Rattle.lk_law.specs.Leads.{Named};
-ghost use Rattle.lk_domain.specs.Views.{IsNumbered};
 ghost use Rattle.lk_domain.specs.Words.{IsNode, places_of};
 ghost use Rattle.lk_word.specs.declared.spin_word.NodeName.{NodeName as Name};
+ghost use Rattle.lk_pvdomain.specs.PvPaths.{IsOn};
 ghost use Rattle.lk_pvdomain.specs.PvPlays.{AtFill, AtSeek, EmptiesAt, Fills, SeesPlace, looked_at};
 
-use crate::domain::{LOCKS, PvDomain};
+use crate::layout::{LOCKS, pair_of, place_of, places};
 use crate::rule::{Erasings, Fillings, PlaceLooks};
-use lk_domain::Right;
+use lk_domain::{Domain, Right};
 use lk_word::NodeName;
 
 // Puts the lock into the hash at a place, if that is empty: the rows E6, with the own node, and K3,
 // with the successor's.
 pub(crate) fn fill(
     seat: &mut Right,
-    domain: &PvDomain,
+    domain: &Domain,
     lock: u32,
     node: NodeName,
     place: usize,
 ) -> u64
-    requires table { seat.old.table_id ≡ domain.now.table.shared.table_id }
-    requires number { IsNumbered seat.old.me.0 }
+    requires on { IsOn domain.now seat.old }
     requires lock { lock < locks_of domain.now.plan }
     requires node { IsNode domain.now.plan node }
     requires place { place < places_of domain.now.plan }
@@ -32,8 +31,8 @@ pub(crate) fn fill(
     ensures same { (seat.new.table_id ≡ seat.old.table_id) × (seat.new.id ≡ seat.old.id) }
     ensures step { Fills seat.old.me result seat.new.me }
 {
-    let word = domain.place_of(place);
-    let pair = domain.pair_of(lock, node);
+    let word = place_of(domain, place);
+    let pair = pair_of(domain, lock, node);
     let met = domain
         .table
         .shared
@@ -44,9 +43,8 @@ pub(crate) fn fill(
 // Puts the lock into the hash at the first place that it finds empty: the rows E6 and K3. It tries
 // each place once, and returns whether it found one. The places that others free meanwhile it may
 // have passed.
-pub(crate) fn put_in(seat: &mut Right, domain: &PvDomain, lock: u32, node: NodeName) -> bool
-    requires table { seat.old.table_id ≡ domain.now.table.shared.table_id }
-    requires number { IsNumbered seat.old.me.0 }
+pub(crate) fn put_in(seat: &mut Right, domain: &Domain, lock: u32, node: NodeName) -> bool
+    requires on { IsOn domain.now seat.old }
     requires lock { lock < locks_of domain.now.plan }
     requires node { IsNode domain.now.plan node }
     requires row { AtFill node (lock_name lock) seat.old.me.0 }
@@ -54,7 +52,7 @@ pub(crate) fn put_in(seat: &mut Right, domain: &PvDomain, lock: u32, node: NodeN
     ensures fills { result ≡ true → Goes (Named None) seat.old.me seat.new.me }
     ensures stays { result ≡ false → seat.new.me ≡ seat.old.me }
 {
-    for place in 0..domain.places() {
+    for place in 0..places(domain) {
         if fill(seat, domain, lock, node, place) == 0 {
             return true;
         }
@@ -63,9 +61,8 @@ pub(crate) fn put_in(seat: &mut Right, domain: &PvDomain, lock: u32, node: NodeN
 }
 
 // Looks at the next place for the entry of the lock.
-pub(crate) fn look_place(seat: &mut Right, domain: &PvDomain, lock: u32, place: usize) -> u64
-    requires table { seat.old.table_id ≡ domain.now.table.shared.table_id }
-    requires number { IsNumbered seat.old.me.0 }
+pub(crate) fn look_place(seat: &mut Right, domain: &Domain, lock: u32, place: usize) -> u64
+    requires on { IsOn domain.now seat.old }
     requires lock { lock < locks_of domain.now.plan }
     requires place { place < places_of domain.now.plan }
     requires row { AtSeek (lock_name lock) seat.old.me.0 }
@@ -73,24 +70,22 @@ pub(crate) fn look_place(seat: &mut Right, domain: &PvDomain, lock: u32, place: 
     ensures same { (seat.new.table_id ≡ seat.old.table_id) × (seat.new.id ≡ seat.old.id) }
     ensures step { SeesPlace lock seat.old.me result seat.new.me }
 {
-    let word = domain.place_of(place);
+    let word = place_of(domain, place);
     let met = domain.table.shared.load::<PlaceLooks>(seat, word);
     met
 }
 
 // Finds the place of the lock's entry. It reads each place at most once.
-pub(crate) fn find(seat: &mut Right, domain: &PvDomain, lock: u32) -> usize
-    requires table { seat.old.table_id ≡ domain.now.table.shared.table_id }
-    requires number { IsNumbered seat.old.me.0 }
+pub(crate) fn find(seat: &mut Right, domain: &Domain, lock: u32) -> usize
+    requires on { IsOn domain.now seat.old }
     requires lock { lock < locks_of domain.now.plan }
-    requires plan { seat.old.me.0.who.plan ≡ domain.now.plan }
     requires row { AtSeek (lock_name lock) seat.old.me.0 }
     requires fresh { seat.old.me.0.calls.looked ≡ 0 }
     ensures same { (seat.new.table_id ≡ seat.old.table_id) × (seat.new.id ≡ seat.old.id) }
     ensures place { result < places_of domain.now.plan }
     ensures found { (a : Name) × (seat.new.me ≡ (looked_at result (Some a) seat.old.me.0, seat.old.me.1)) }
 {
-    for place in 0..domain.places() {
+    for place in 0..places(domain) {
         let met = look_place(seat, domain, lock, place);
         if met != 0 && (met - 1) % LOCKS == lock as u64 {
             return place;
@@ -100,9 +95,8 @@ pub(crate) fn find(seat: &mut Right, domain: &PvDomain, lock: u32) -> usize
 }
 
 // Takes the entry of the lock out of the hash, where it was found: the rows U3 and E9.
-pub(crate) fn erase(seat: &mut Right, domain: &PvDomain, lock: u32, place: usize) -> u64
-    requires table { seat.old.table_id ≡ domain.now.table.shared.table_id }
-    requires number { IsNumbered seat.old.me.0 }
+pub(crate) fn erase(seat: &mut Right, domain: &Domain, lock: u32, place: usize) -> u64
+    requires on { IsOn domain.now seat.old }
     requires lock { lock < locks_of domain.now.plan }
     requires place { place < places_of domain.now.plan }
     requires row { AtSeek (lock_name lock) seat.old.me.0 }
@@ -111,17 +105,15 @@ pub(crate) fn erase(seat: &mut Right, domain: &PvDomain, lock: u32, place: usize
     ensures same { (seat.new.table_id ≡ seat.old.table_id) × (seat.new.id ≡ seat.old.id) }
     ensures step { EmptiesAt lock seat.old.me result seat.new.me }
 {
-    let word = domain.place_of(place);
+    let word = place_of(domain, place);
     let met = domain.table.shared.swap::<Erasings>(seat, word, 0);
     met
 }
 
 // Finds the entry of the lock and takes it out: the rows U3 and E9, with the reads before them.
-pub(crate) fn take_out(seat: &mut Right, domain: &PvDomain, lock: u32) -> u64
-    requires table { seat.old.table_id ≡ domain.now.table.shared.table_id }
-    requires number { IsNumbered seat.old.me.0 }
+pub(crate) fn take_out(seat: &mut Right, domain: &Domain, lock: u32) -> u64
+    requires on { IsOn domain.now seat.old }
     requires lock { lock < locks_of domain.now.plan }
-    requires plan { seat.old.me.0.who.plan ≡ domain.now.plan }
     requires row { AtSeek (lock_name lock) seat.old.me.0 }
     requires fresh { seat.old.me.0.calls.looked ≡ 0 }
     ensures same { (seat.new.table_id ≡ seat.old.table_id) × (seat.new.id ≡ seat.old.id) }

@@ -8,10 +8,10 @@ ghost use Rattle.lk_pvdomain.specs.PvWords.{Sleeps, Turns, Wakes, WaitsAsleep};
 ghost use Rattle.lk_pvdomain.specs.declared.exchanges.Swap.TheVariants.{Takes, Fails, Misses};
 
 use crate::call::Queued;
-use crate::domain::HASHED;
 use crate::exchanges::Swap;
 use crate::rest::{Leading, PvRest};
-use crate::{hash, kicks, states, tries, words};
+use crate::states::{self, HASHED};
+use crate::{hash, kicks, tries, words};
 use lk_domain::Right;
 use lk_domain::moves::WordUse;
 use lk_rows::State;
@@ -149,7 +149,7 @@ impl<'a> Queued<'a> {
         requires { Waits self.now E12 (Leads true) seat.old }
         ensures { Turns self.now E12 (Leads true) result seat.old seat.new }
     {
-        kicks::halt(seat, self.domain, self.own.cpu);
+        kicks::halt(seat, self.domain, self.own);
         Some(PvRest::Naps)
     }
 
@@ -160,6 +160,6 @@ impl<'a> Queued<'a> {
         ensures kicked { result ≡ true → Wakes self.now E12 E2 (Leads true) seat.old seat.new }
         ensures sleeps { result ≡ false → Sleeps self.now E12 E2 (Leads true) seat.old seat.new }
     {
-        kicks::is_woken(seat, self.domain, self.own.cpu)
+        kicks::is_woken(seat, self.domain, self.own)
     }
 }

@@ -1,26 +1,24 @@
 // A call of `pv_lock` in turns, for those that may not wait in a loop of ours, or that decide
 // themselves how a halted processor sleeps.
 ghost use Rattle.std.specs.Prelude.{◌≡◌, ◌<◌, false, None, Some};
-ghost use Rattle.lk_rows.specs.declared.parts.Pc.TheVariants.{G1};
 ghost use Rattle.lk_rows.specs.declared.setup.Verb.TheVariants.{Lock};
 ghost use Rattle.lk_domain.specs.Calls.{holds_in};
-ghost use Rattle.lk_domain.specs.Paths.{Any};
 ghost use Rattle.lk_domain.specs.Plans.{locks_of};
 ghost use Rattle.lk_pvdomain.specs.PvCalls.{HasTaken, HasTakenSince, IsResting};
-ghost use Rattle.lk_pvdomain.specs.PvPaths.{At, Start, first_of};
-ghost use Rattle.lk_pvdomain.specs.PvRests.{Comes, is_asleep_at};
-ghost use Rattle.lk_pvdomain.specs.PvSeats.{IsOf, IsSame, calls_of};
+ghost use Rattle.lk_pvdomain.specs.PvPaths.{Start, first_of};
+ghost use Rattle.lk_pvdomain.specs.PvRests.{is_asleep_at};
+ghost use Rattle.lk_domain.specs.Seats.{IsSame, calls_of};
+ghost use Rattle.lk_pvdomain.specs.PvSeats.{IsOf};
 ghost use Rattle.lk_pvdomain.specs.PvTurns.{Waits, has_halted, waiter_at, waiter_in};
 ghost use Rattle.lk_pvdomain.specs.declared.waiter.PvTurn.TheVariants.{Has};
 ghost use Rattle.lk_pvdomain.specs.declared.waiter.PvWaiter.{PvWaiter};
 
 use crate::call::Queued;
-use crate::calls::fast;
-use crate::cpu::PvCpu;
-use crate::domain::PvDomain;
+use crate::domain::{PvCpu, PvDomain};
+use crate::halting;
 use crate::rest::PvRest;
 use crate::waiter::{PvTurn, PvWaiter};
-use lk_domain::{LockId, Right};
+use lk_domain::LockId;
 use lk_word::NodeName;
 
 // What a turn came to, which leads there.
@@ -41,18 +39,6 @@ fn turn_of(lock: LockId, place: Option<PvRest>) -> PvTurn
     }
 }
 
-// From G1. It is out of the way of a call that takes a free lock, which builds no `Queued`.
-#[cold]
-#[inline(never)]
-fn begin_slowpath(seat: &mut Right, domain: &PvDomain, lock: u32, own: NodeName) -> Option<PvRest>
-    requires at { (s : Start) × At domain.now Lock lock own s G1 Any seat.old }
-    ensures comes { (s : Start) → At domain.now Lock lock own s G1 Any seat.old
-        → Comes domain.now lock own result s seat.new }
-{
-    let call = Queued { domain, lock, own };
-    call.contend(seat)
-}
-
 /// Begins a call of `pv_lock`, and makes its first turn. It never waits. What is asked of the
 /// processor is what `pv_lock` asks.
 ///
@@ -60,7 +46,7 @@ fn begin_slowpath(seat: &mut Right, domain: &PvDomain, lock: u32, own: NodeName)
 /// its place: nobody behind it in the queue gets the lock.
 pub fn pv_begin(cpu: &mut PvCpu, domain: &PvDomain, lock: LockId) -> PvTurn
     requires domain { IsOf cpu.old domain.now }
-    requires lock { lock.index < locks_of domain.now.plan }
+    requires lock { lock.index < locks_of domain.now.domain.plan }
     requires rests { IsResting (calls_of cpu.old) }
     requires free { holds_in (calls_of cpu.old).holds lock.index ≡ false }
     ensures same { IsSame cpu.old cpu.new }
@@ -70,14 +56,8 @@ pub fn pv_begin(cpu: &mut PvCpu, domain: &PvDomain, lock: LockId) -> PvTurn
     ensures waits { (w : PvWaiter) → waiter_in result ≡ Some w
         → Waits domain.now w (first_of Lock lock.index cpu.old.seat) cpu.new }
 {
-    if fast(&mut cpu.seat, domain, lock.index) {
-        return PvTurn::Has;
-    }
-    let own = NodeName {
-        cpu: cpu.number,
-        index: 0,
-    };
-    let place = begin_slowpath(&mut cpu.seat, domain, lock.index, own);
+    let number = cpu.number();
+    let place = halting::begin(&mut cpu.seat, &domain.domain, lock.index, number);
     turn_of(lock, place)
 }
 
@@ -99,11 +79,11 @@ pub fn pv_poll(cpu: &mut PvCpu, domain: &PvDomain, waiter: PvWaiter) -> PvTurn
         → Waits domain.now waiter s cpu.old → Waits domain.now w s cpu.new }
 {
     let own = NodeName {
-        cpu: cpu.number,
+        cpu: cpu.number(),
         index: 0,
     };
     let call = Queued {
-        domain,
+        domain: &domain.domain,
         lock: waiter.lock.index,
         own,
     };

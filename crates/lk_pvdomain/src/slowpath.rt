@@ -137,7 +137,7 @@ impl<'a> Queued<'a> {
             Tail::First => self.head(seat),
             Tail::Behind(prev) => {
                 self.link(seat, prev);
-                let left = self.domain.turns();
+                let left = self.turns();
                 self.wait(seat, Spinning { prev, left })
             }
             Tail::Other(now) => Some(PvRest::Joins(now)),
@@ -184,7 +184,7 @@ impl<'a> Queued<'a> {
         ensures { Turns self.now W7 (Follows prev) result seat.old seat.new }
     {
         self.say_running(seat, prev);
-        let left = self.domain.turns();
+        let left = self.turns();
         Some(PvRest::Spins(Spinning { prev, left }))
     }
 
@@ -198,7 +198,7 @@ impl<'a> Queued<'a> {
             return Some(PvRest::Halts(prev));
         }
         self.say_running(seat, prev);
-        let left = self.domain.turns();
+        let left = self.turns();
         self.wait(seat, Spinning { prev, left })
     }
 
@@ -220,7 +220,7 @@ impl<'a> Queued<'a> {
     {
         self.run_as_head(seat, hashed);
         self.set_pending(seat, hashed);
-        let left = self.domain.turns();
+        let left = self.turns();
         self.press(seat, Leading { hashed, left })
     }
 

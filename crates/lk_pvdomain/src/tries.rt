@@ -4,22 +4,20 @@ ghost use Rattle.lk_domain.specs.Calls.{lock_name};
 ghost use Rattle.lk_domain.specs.Ledgers.{is_first};
 ghost use Rattle.lk_domain.specs.Plans.{locks_of};
 ghost use Rattle.lk_domain.specs.Plays.{Acts, MadeBy};
-ghost use Rattle.lk_domain.specs.Views.{IsNumbered};
 ghost use Rattle.lk_domain.specs.Values.{out_in};
 ghost use Rattle.lk_rows.specs.declared.setup.Verb.TheVariants.{Lock, Unlock};
+ghost use Rattle.lk_pvdomain.specs.PvPaths.{IsOn};
 ghost use Rattle.lk_pvdomain.specs.PvPlays.{TriedBy, release_fails, head_fails, steal_fails};
 ghost use Rattle.lk_pvdomain.specs.PvRows.{tries_release, tries_head, tries_steal};
 
-use crate::domain::PvDomain;
 use crate::rule::{HeadTries, ReleaseTries, StealTries};
-use lk_domain::Right;
+use lk_domain::{Domain, Right};
 use lk_word::{HELD, PENDING, low_byte};
 use std::sync::Wait;
 
 // Swaps a held word to a free one: the row U2, with which a release begins, or no row.
-pub(crate) fn try_release(seat: &mut Right, domain: &PvDomain, lock: u32, expected: u64) -> u64
-    requires table { seat.old.table_id ≡ domain.now.table.shared.table_id }
-    requires number { IsNumbered seat.old.me.0 }
+pub(crate) fn try_release(seat: &mut Right, domain: &Domain, lock: u32, expected: u64) -> u64
+    requires on { IsOn domain.now seat.old }
     requires lock { lock < locks_of domain.now.plan }
     requires expected { expected % 256 ≡ 1 }
     requires row { Acts tries_release seat.old.me.0 Unlock lock }
@@ -38,9 +36,8 @@ pub(crate) fn try_release(seat: &mut Right, domain: &PvDomain, lock: u32, expect
 
 // The queue head reads the word. If the byte is not free, or nobody pends, this is the row E4, and
 // else no row. A read leaves the cache line with the holder, while a failed swap would take it.
-pub(crate) fn look_head(seat: &mut Right, domain: &PvDomain, lock: u32) -> u64
-    requires table { seat.old.table_id ≡ domain.now.table.shared.table_id }
-    requires number { IsNumbered seat.old.me.0 }
+pub(crate) fn look_head(seat: &mut Right, domain: &Domain, lock: u32) -> u64
+    requires on { IsOn domain.now seat.old }
     requires lock { lock < locks_of domain.now.plan }
     requires row { Acts tries_head seat.old.me.0 Lock lock }
     ensures same { (seat.new.table_id ≡ seat.old.table_id) × (seat.new.id ≡ seat.old.id) }
@@ -53,9 +50,8 @@ pub(crate) fn look_head(seat: &mut Right, domain: &PvDomain, lock: u32) -> u64
 
 // The queue head swaps a free word with the pending bit to a held one without it: the row E4, or no
 // row.
-pub(crate) fn try_head(seat: &mut Right, domain: &PvDomain, lock: u32, expected: u64) -> u64
-    requires table { seat.old.table_id ≡ domain.now.table.shared.table_id }
-    requires number { IsNumbered seat.old.me.0 }
+pub(crate) fn try_head(seat: &mut Right, domain: &Domain, lock: u32, expected: u64) -> u64
+    requires on { IsOn domain.now seat.old }
     requires lock { lock < locks_of domain.now.plan }
     requires expected { expected % 512 ≡ 256 }
     requires row { Acts tries_head seat.old.me.0 Lock lock }
@@ -71,9 +67,8 @@ pub(crate) fn try_head(seat: &mut Right, domain: &PvDomain, lock: u32, expected:
 }
 
 // Swaps a free byte to a held one, whatever pending and tail are: the row H2, or no row.
-pub(crate) fn try_steal(seat: &mut Right, domain: &PvDomain, lock: u32, expected: u64) -> u64
-    requires table { seat.old.table_id ≡ domain.now.table.shared.table_id }
-    requires number { IsNumbered seat.old.me.0 }
+pub(crate) fn try_steal(seat: &mut Right, domain: &Domain, lock: u32, expected: u64) -> u64
+    requires on { IsOn domain.now seat.old }
     requires lock { lock < locks_of domain.now.plan }
     requires expected { expected % 256 ≡ 0 }
     requires row { Acts tries_steal seat.old.me.0 Lock lock }
@@ -94,12 +89,11 @@ pub(crate) fn try_steal(seat: &mut Right, domain: &PvDomain, lock: u32, expected
 pub(crate) fn release<R: Wait>(
     seat: &mut Right,
     rt: &R,
-    domain: &PvDomain,
+    domain: &Domain,
     lock: u32,
     seen: u64,
 ) -> u64
-    requires table { seat.old.table_id ≡ domain.now.table.shared.table_id }
-    requires number { IsNumbered seat.old.me.0 }
+    requires on { IsOn domain.now seat.old }
     requires lock { lock < locks_of domain.now.plan }
     requires seen { seen % 256 ≡ 1 }
     requires row { Acts tries_release seat.old.me.0 Unlock lock }

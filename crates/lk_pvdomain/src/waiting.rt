@@ -5,9 +5,9 @@ ghost use Rattle.lk_pvdomain.specs.PvWords.{Follows, IsNodeOf, Owns, Spares, Spi
 ghost use Rattle.lk_pvdomain.specs.PvWords.{Sleeps, Waits, WaitsAsleep, Wakes};
 
 use crate::call::Queued;
-use crate::domain::{HALTED, RUNNING};
+use crate::kicks;
 use crate::rest::{PvRest, Spinning};
-use crate::{kicks, states};
+use crate::states::{self, HALTED, RUNNING};
 use lk_domain::{Right, node_moves};
 use lk_rows::State;
 use lk_word::NodeName;
@@ -79,7 +79,7 @@ impl<'a> Queued<'a> {
         requires waits { Waits self.now W6 (Follows prev) seat.old }
         ensures { Turns self.now W6 (Follows prev) result seat.old seat.new }
     {
-        kicks::halt(seat, self.domain, self.own.cpu);
+        kicks::halt(seat, self.domain, self.own);
         Some(PvRest::Halts(prev))
     }
 
@@ -90,7 +90,7 @@ impl<'a> Queued<'a> {
         ensures kicked { result ≡ true → Wakes self.now W6 W7 (Follows prev) seat.old seat.new }
         ensures sleeps { result ≡ false → Sleeps self.now W6 W7 (Follows prev) seat.old seat.new }
     {
-        kicks::is_woken(seat, self.domain, self.own.cpu)
+        kicks::is_woken(seat, self.domain, self.own)
     }
 
     // The row W7 takes back that it has halted, unless its predecessor has made it hashed (K1). It

@@ -6,20 +6,17 @@ ghost use Rattle.lk_domain.specs.NodePlays.{InCall};
 ghost use Rattle.lk_domain.specs.Plans.{locks_of};
 ghost use Rattle.lk_domain.specs.Plays.{WentBy};
 ghost use Rattle.lk_domain.specs.Uses.{UsesWord, frees};
-ghost use Rattle.lk_domain.specs.Views.{IsNumbered};
-ghost use Rattle.lk_domain.specs.Words.{IsNode};
+ghost use Rattle.lk_pvdomain.specs.PvPaths.{IsOn, IsSeat};
 ghost use Rattle.lk_pvdomain.specs.PvPlays.{AtLast};
 
-use crate::domain::PvDomain;
 use lk_abs::LockName;
 use lk_domain::moves::WordUse;
-use lk_domain::{Right, WordSteps, moves};
+use lk_domain::{Domain, Right, WordSteps, moves};
 use lk_word::{HELD, NodeName};
 
 // A row on the word, by a call that goes on.
-pub(crate) fn go_on(seat: &mut Right, domain: &PvDomain, lock: u32, how: WordUse) -> u64
-    requires table { seat.old.table_id ≡ domain.now.table.shared.table_id }
-    requires number { IsNumbered seat.old.me.0 }
+pub(crate) fn go_on(seat: &mut Right, domain: &Domain, lock: u32, how: WordUse) -> u64
+    requires on { IsOn domain.now seat.old }
     requires lock { lock < locks_of domain.now.plan }
     requires row { InCall (UsesWord how (lock_name lock)) seat.old.me.0 }
     requires home { frees how ≡ true → AllHome (lock_name lock) seat.old.me.0 }
@@ -34,17 +31,15 @@ pub(crate) fn go_on(seat: &mut Right, domain: &PvDomain, lock: u32, how: WordUse
 }
 
 // Leaves the queue as the last in it, by one swap of the whole word: the row E13.
-pub(crate) fn quit(seat: &mut Right, domain: &PvDomain, lock: u32, own: NodeName) -> u64
-    requires table { seat.old.table_id ≡ domain.now.table.shared.table_id }
-    requires number { IsNumbered seat.old.me.0 }
+pub(crate) fn quit(seat: &mut Right, domain: &Domain, lock: u32, own: NodeName) -> u64
+    requires of { IsSeat domain.now own seat.old.table_id seat.old.me }
     requires lock { lock < locks_of domain.now.plan }
-    requires own { IsNode domain.now.plan own }
     requires row { InCall (AtLast own (lock_name lock)) seat.old.me.0 }
     ensures same { (seat.new.table_id ≡ seat.old.table_id) × (seat.new.id ≡ seat.old.id) }
     ensures step { WentBy seat.old.me result seat.new.me }
 {
     let word = domain.plan.lock_word(lock);
-    let last = domain.last_of(own);
+    let last = domain.plan.tail_of(own) + HELD;
     let met = domain
         .table
         .shared

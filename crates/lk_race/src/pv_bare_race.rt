@@ -24,7 +24,7 @@ pub struct PvBareRace {
 #[derive(Drop)]
 pub struct PvBareTrack<'a> {
     pub domain: &'a PvDomain,
-    ghost one: { locks_of domain.now.plan ≡ 1 },
+    ghost one: { locks_of domain.now.domain.plan ≡ 1 },
 }
 
 impl Track for PvBareTrack<'_> {

@@ -13,14 +13,15 @@ use Rattle.lk_domain.specs.Views.{newcomer}
 use Rattle.lk_domain.specs.declared.slot.Stowed.TheVariants.{CellKey}
 use Rattle.lk_domain.specs.declared.view.View.{View}
 use Rattle.lk_pvdomain.specs.PvCalls.{HasFreed, HasTaken, IsResting, without}
-use Rattle.lk_pvdomain.specs.PvSeats.{IsDealt, IsOf, IsSame, IsStill, calls_of, ledger_of, view_of}
-use Rattle.lk_pvdomain.specs.declared.cpu.PvCpu.{PvCpu}
+use Rattle.lk_domain.specs.Seats.{IsSame, IsStill, calls_of, ledger_of, view_of}
+use Rattle.lk_pvdomain.specs.PvSeats.{IsDealt, IsOf}
+use Rattle.lk_domain.specs.declared.cpu.Cpu.{Cpu}
 use Rattle.lk_pvdomain.specs.declared.domain.PvDomain.{PvDomain}
 use Rattle.lk_pvdomain.proofs.PvSeating.{same_of}
 use Rattle.lk_thread_tests.specs.Counting.{IsValued, MayCount}
 
 -- a new processor may count
-pub may : (d : PvDomain) (i : ℕ) (cpu : PvCpu) → IsDealt d i cpu → MayCount d i cpu
+pub may : (d : PvDomain) (i : ℕ) (cpu : Cpu) → IsDealt d i cpu → MayCount d i cpu
 may d i cpu new =
     let frames = ap (λ (c : Calls). c.frames) new.calls in
     record {
@@ -40,16 +41,16 @@ may d i cpu new =
     }
 
 -- it holds lock 1 and nothing else
-pub record HasLock (d : PvDomain) (i : ℕ) (cpu : PvCpu) : Type 0 where
+pub record HasLock (d : PvDomain) (i : ℕ) (cpu : Cpu) : Type 0 where
   pub domain_is : IsOf cpu d
   pub number : cpu.number ≡ i
-  pub who : (view_of cpu).who ≡ newcomer d.plan i
+  pub who : (view_of cpu).who ≡ newcomer d.domain.plan i
   pub calls : IsResting (calls_of cpu)
   pub home : (ledger_of cpu).out ≡ None
   pub nth : ℕ
   pub holds : (calls_of cpu).holds ≡ hold 0 (lock_name 1) Spins nth ∷ []
 
-module _ (d : PvDomain) (i : ℕ) (old new : PvCpu) where
+module _ (d : PvDomain) (i : ℕ) (old new : Cpu) where
   pub taken : IsSame old new → MayCount d i old → HasTaken d 1 old new → HasLock d i new
   taken same was took =
       record {
@@ -69,7 +70,7 @@ module _ (d : PvDomain) (i : ℕ) (old new : PvCpu) where
         domain_is = record {
           table = still.table ∙ was.domain_is.table;
           plan = ap (λ (v : View). v.who.plan) still.view ∙ was.domain_is.plan;
-          low = subst (λ (n : ℕ). n < cpus_of d.plan) (sym still.number) was.domain_is.low;
+          low = subst (λ (n : ℕ). n < cpus_of d.domain.plan) (sym still.number) was.domain_is.low;
         };
         number = still.number ∙ was.number;
         who = ap (λ (v : View). v.who) still.view ∙ was.who;
@@ -95,21 +96,21 @@ module _ (d : PvDomain) (i : ℕ) (old new : PvCpu) where
       }
 
 -- the processor may work on the value of a lock that it holds
-pub may_work : (d : PvDomain) (i : ℕ) (cpu : PvCpu) → HasLock d i cpu → IsHomeWith 1 (calls_of cpu).holds
+pub may_work : (d : PvDomain) (i : ℕ) (cpu : Cpu) → HasLock d i cpu → IsHomeWith 1 (calls_of cpu).holds
 may_work d i cpu has =
     record { manner = Spins; held = ap (λ (hs : List Hold). hold_in hs 1) has.holds; sole = refl }
 
 -- and the lock may be freed
-pub is_held : (d : PvDomain) (i : ℕ) (cpu : PvCpu) → HasLock d i cpu → holds_in (calls_of cpu).holds 1 ≡ true
+pub is_held : (d : PvDomain) (i : ℕ) (cpu : Cpu) → HasLock d i cpu → holds_in (calls_of cpu).holds 1 ≡ true
 is_held d i cpu has = ap (λ (hs : List Hold). holds_in hs 1) has.holds
 
-pub is_home : (d : PvDomain) (i : ℕ) (cpu : PvCpu) → HasLock d i cpu → out_in (calls_of cpu).holds 1 ≡ false
+pub is_home : (d : PvDomain) (i : ℕ) (cpu : Cpu) → HasLock d i cpu → out_in (calls_of cpu).holds 1 ≡ false
 is_home d i cpu has = ap (λ (hs : List Hold). out_in hs 1) has.holds
 
 -- the key that the end of a domain gives back is that of the lock's cell
 
 pub last_fits : (d : PvDomain) (cell : TableId) (keys front : List (Option Key)) (x : Option Key) → IsValued d cell
-    → AreLaid d.plan keys → keys ≡ front ++ x ∷ [] → Fits (Some cell) (lodged x)
+    → AreLaid d.domain.plan keys → keys ≡ front ++ x ∷ [] → Fits (Some cell) (lodged x)
 last_fits d cell keys front x valued laid is =
     let long : length keys ≡ length front + 1 = ap (λ (ys : List (Option Key)). length ys) is ∙ length-append front (x ∷ []) in
     let one : length front ≡ 1 = let many = laid.0 ∙ valued.homes in omega (arith, long, many) in
@@ -117,7 +118,7 @@ last_fits d cell keys front x valued laid is =
     ap (λ (n : ℕ). get_or keys n x) (sym one)
     ∙ (ap (λ (ys : List (Option Key)). get_or ys (length front) x) is ∙ get_or_push front x x (length front) refl) in
     subst (λ (id : Option TableId). Fits id (lodged x)) valued.cell_is
-    (subst (λ (o : Option Key). FitsUnder d.plan 1 (lodged o)) at (laid.1 1 x (omega (arith, valued.homes))))
+    (subst (λ (o : Option Key). FitsUnder d.domain.plan 1 (lodged o)) at (laid.1 1 x (omega (arith, valued.homes))))
 
 pub not_none : (cell : TableId) (x : Option Key) → Fits (Some cell) (lodged x) → x ≡ None → ⊥
 not_none cell x fits none =

@@ -6,8 +6,9 @@ use Rattle.lk_domain.specs.Values.{out_in}
 use Rattle.lk_domain.proofs.Outs.{unheld_out}
 use Rattle.lk_pvdomain.specs.PvCalls.{HasTakenBy, HasTakenSince, HasMissed, HasFreed}
 use Rattle.lk_pvdomain.specs.PvPaths.{Start}
-use Rattle.lk_pvdomain.specs.PvSeats.{IsOf, IsSame, calls_of}
-use Rattle.lk_pvdomain.specs.declared.cpu.PvCpu.{PvCpu}
+use Rattle.lk_domain.specs.Seats.{IsSame, calls_of}
+use Rattle.lk_pvdomain.specs.PvSeats.{IsOf}
+use Rattle.lk_domain.specs.declared.cpu.Cpu.{Cpu}
 use Rattle.lk_pvdomain.specs.PvTurns.{Waits, waiter_in}
 use Rattle.lk_pvdomain.specs.declared.domain.PvDomain.{PvDomain}
 use Rattle.lk_pvdomain.specs.declared.waiter.PvTurn.{PvTurn}
@@ -16,7 +17,7 @@ use Rattle.lk_pvdomain.specs.declared.waiter.PvWaiter.{PvWaiter}
 use Rattle.lk_pvdomain.proofs.PvSeating.{same_of}
 use Rattle.lk_thread_tests.specs.Halting.{IsReady, HasOne, StandsAt}
 
-module _ (d : PvDomain) (old new : PvCpu) (same : IsSame old new) where
+module _ (d : PvDomain) (old new : Cpu) (same : IsSame old new) where
   pub has : (v : Verb) → ((hs : List Hold) → holds_begun v 0 1 hs ≡ hs) → IsReady d old → HasTakenBy v d 1 old new → HasOne d new
   has v same_holds ready taken =
       record {
@@ -39,7 +40,7 @@ module _ (d : PvDomain) (old new : PvCpu) (same : IsSame old new) where
   freed of free = record { domain_is = same_of d old new same of; rests = free.rests; free = free.none }
 
 -- a call that was polled has the lock
-pub polled : (d : PvDomain) (s : Start) (new : PvCpu) → IsOf new d → holds_in s.holds 1 ≡ false → HasTakenSince d 1 s new → HasOne d new
+pub polled : (d : PvDomain) (s : Start) (new : Cpu) → IsOf new d → holds_in s.holds 1 ≡ false → HasTakenSince d 1 s new → HasOne d new
 polled d s new of free taken =
     record {
       domain_is = of;
@@ -49,7 +50,7 @@ polled d s new of free taken =
     }
 
 -- and so does one that waited, or it waits or has halted still
-pub came : (d : PvDomain) (s : Start) (turn : PvTurn) (old new : PvCpu) → IsSame old new → IsOf old d → holds_in s.holds 1 ≡ false
+pub came : (d : PvDomain) (s : Start) (turn : PvTurn) (old new : Cpu) → IsSame old new → IsOf old d → holds_in s.holds 1 ≡ false
     → (turn ≡ Has → HasOne d new) → ((w : PvWaiter) → waiter_in turn ≡ Some w → w.lock.index ≡ 1)
     → ((w : PvWaiter) → waiter_in turn ≡ Some w → Waits d w s new) → StandsAt d turn new
 came d s Has old new same of free has lock waits = has refl

@@ -3,6 +3,7 @@ use Rattle.std.specs.Prelude.{◌≡◌, ◌≢◌, ◌<◌, ℕ, None, false}
 use Rattle.lk_abs.specs.declared.holder.Manner.{Manner}
 use Rattle.lk_abs.specs.declared.names.Kind.{Kind}
 use Rattle.lk_abs.specs.declared.names.Kind.TheVariants.{Rw, Spin}
+use Rattle.lk_law.specs.Agree.{halts}
 use Rattle.lk_domain.specs.Ends.{Rests}
 use Rattle.lk_domain.specs.Plans.{kind_at, locks_of}
 use Rattle.lk_domain.specs.Seats.{IsOf, calls_of, ledger_of}
@@ -18,8 +19,9 @@ use Rattle.lk_guard.specs.Idle.{IsIdle}
 abbrev pub AreAll : Kind → Plan → Type 0
 AreAll kind k = (i : ℕ) → i < locks_of k → kind_at k i ≡ kind
 
--- the processor rests, in a domain of six spinlocks
+-- the processor rests, in a domain of six spinlocks whose waiters halt none
 pub record PlaysIn (domain : Domain) (cpu : Cpu) : Type 0 where
+  pub awake : halts domain.plan.mode ≡ false
   pub spins : AreAll Spin domain.plan
   pub locks : locks_of domain.plan ≡ 6
   pub rests : Rests domain cpu.number cpu

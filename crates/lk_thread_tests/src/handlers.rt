@@ -124,7 +124,9 @@ impl<'a> Irq for Herald<'a> {
 }
 
 // Whether the processor waits for each of the locks, with a call of its own.
-fn waits_for_all(cpu: &Cpu) -> bool {
+fn waits_for_all(cpu: &Cpu) -> bool
+    requires { halts cpu.now.seat.me.0.who.plan.mode ≡ false }
+{
     for index in 0..LOCKS {
         if !cpu.waits(LockId { index }) {
             return false;
@@ -134,7 +136,9 @@ fn waits_for_all(cpu: &Cpu) -> bool {
 }
 
 // Whether the processor holds lock 0 and no other, and waits for none.
-fn holds_first_alone(cpu: &Cpu) -> bool {
+fn holds_first_alone(cpu: &Cpu) -> bool
+    requires { halts cpu.now.seat.me.0.who.plan.mode ≡ false }
+{
     for index in 1..LOCKS {
         if cpu.holds(LockId { index }) {
             return false;

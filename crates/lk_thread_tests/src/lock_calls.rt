@@ -69,7 +69,9 @@ fn make_call<R: Wait>(
 }
 
 // The numbers of the locks that the processor holds, or `none`.
-fn held(alloc: Global, cpu: &Cpu) -> Result<String, AllocError> {
+fn held(alloc: Global, cpu: &Cpu) -> Result<String, AllocError>
+    requires { halts cpu.now.seat.me.0.who.plan.mode ≡ false }
+{
     let mut text = String::new(alloc);
     for index in 0..LOCKS {
         if cpu.holds(LockId { index }) {

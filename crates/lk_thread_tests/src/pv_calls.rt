@@ -27,8 +27,8 @@ const TURNS: u32 = 20_000;
 pub fn open(alloc: Global, spins: u32) -> Result<(PvDomain, List<PvCpu>), Memory>
     requires some { 0 < spins }
     requires few { spins < 65536 }
-    ensures locks { IfOk result (λ made. locks_of made.0.plan ≡ 2) }
-    ensures cpus { IfOk result (λ made. cpus_of made.0.plan ≡ 4) }
+    ensures locks { IfOk result (λ made. locks_of made.0.domain.plan ≡ 2) }
+    ensures cpus { IfOk result (λ made. cpus_of made.0.domain.plan ≡ 4) }
     ensures many { IfOk result (λ made. length made.1.items ≡ 4) }
     ensures dealt { IfOk result (λ made. AreDealt made.0 made.1.items) }
 {
@@ -45,7 +45,7 @@ pub fn open(alloc: Global, spins: u32) -> Result<(PvDomain, List<PvCpu>), Memory
 
 // In one turn of four it tries the lock first: whether it has it.
 fn try_first(cpu: &mut PvCpu, domain: &PvDomain, turn: u32) -> bool
-    requires locks { locks_of domain.now.plan ≡ 2 }
+    requires locks { locks_of domain.now.domain.plan ≡ 2 }
     requires ready { IsReady domain.now cpu.old }
     ensures has { result ≡ true → HasOne domain.now cpu.new }
     ensures ready { result ≡ false → IsReady domain.now cpu.new }
@@ -58,7 +58,7 @@ fn try_first(cpu: &mut PvCpu, domain: &PvDomain, turn: u32) -> bool
 
 /// Takes the lock. In one turn of four it tries it first.
 pub fn take<R: Wait>(cpu: &mut PvCpu, rt: &R, domain: &PvDomain, turn: u32)
-    requires locks { locks_of domain.now.plan ≡ 2 }
+    requires locks { locks_of domain.now.domain.plan ≡ 2 }
     requires ready { IsReady domain.now cpu.old }
     ensures has { HasOne domain.now cpu.new }
 {
@@ -70,7 +70,7 @@ pub fn take<R: Wait>(cpu: &mut PvCpu, rt: &R, domain: &PvDomain, turn: u32)
 
 /// Frees it.
 pub fn give_back<R: Wait>(cpu: &mut PvCpu, rt: &R, domain: &PvDomain)
-    requires locks { locks_of domain.now.plan ≡ 2 }
+    requires locks { locks_of domain.now.domain.plan ≡ 2 }
     requires has { HasOne domain.now cpu.old }
     ensures ready { IsReady domain.now cpu.new }
 {
@@ -79,7 +79,7 @@ pub fn give_back<R: Wait>(cpu: &mut PvCpu, rt: &R, domain: &PvDomain)
 
 // What a thread does: the number is read and stored in two steps, so that no other may come between.
 fn take_turns<R: Wait>(cpu: &mut PvCpu, rt: &R, domain: &PvDomain, number: &AtomicU64)
-    requires locks { locks_of domain.now.plan ≡ 2 }
+    requires locks { locks_of domain.now.domain.plan ≡ 2 }
     requires ready { IsReady domain.now cpu.old }
     ensures ready { IsReady domain.now cpu.new }
 {

@@ -36,7 +36,7 @@ struct Signs {
 
 // Whether the waiter of processor 1 is seen to halt, before this thread gives up.
 fn sees_halt(domain: &PvDomain) -> bool
-    requires { cpus_of domain.now.plan ≡ 4 }
+    requires { cpus_of domain.now.domain.plan ≡ 4 }
 {
     for _ in 0..LOOKS {
         if domain.is_halted(1) {
@@ -66,8 +66,8 @@ fn work_for(rt: &impl CpuClock, time: Duration) -> io::Result<()> {
 
 // Processor 0 holds the lock until the other has halted, and then for a while.
 fn hold<R: Wait + CpuClock>(cpu: &mut PvCpu, rt: &R, domain: &PvDomain, signs: &Signs)
-    requires locks { locks_of domain.now.plan ≡ 2 }
-    requires cpus { cpus_of domain.now.plan ≡ 4 }
+    requires locks { locks_of domain.now.domain.plan ≡ 2 }
+    requires cpus { cpus_of domain.now.domain.plan ≡ 4 }
     requires ready { IsReady domain.now cpu.old }
     ensures ready { IsReady domain.now cpu.new }
 {
@@ -81,7 +81,7 @@ fn hold<R: Wait + CpuClock>(cpu: &mut PvCpu, rt: &R, domain: &PvDomain, signs: &
 
 // Processor 1 waits for it.
 fn wait<R: Wait + CpuClock>(cpu: &mut PvCpu, rt: &R, domain: &PvDomain, signs: &Signs)
-    requires locks { locks_of domain.now.plan ≡ 2 }
+    requires locks { locks_of domain.now.domain.plan ≡ 2 }
     requires ready { IsReady domain.now cpu.old }
     ensures ready { IsReady domain.now cpu.new }
 {
@@ -101,8 +101,8 @@ fn wait<R: Wait + CpuClock>(cpu: &mut PvCpu, rt: &R, domain: &PvDomain, signs: &
 
 // What each processor does.
 fn play<R: Wait + CpuClock>(cpu: &mut PvCpu, rt: &R, domain: &PvDomain, signs: &Signs)
-    requires locks { locks_of domain.now.plan ≡ 2 }
-    requires cpus { cpus_of domain.now.plan ≡ 4 }
+    requires locks { locks_of domain.now.domain.plan ≡ 2 }
+    requires cpus { cpus_of domain.now.domain.plan ≡ 4 }
     requires ready { IsReady domain.now cpu.old }
     ensures ready { IsReady domain.now cpu.new }
 {
@@ -120,8 +120,8 @@ fn play_all<R: Threads + Wait + Sync + CpuClock>(
     signs: &Signs,
     cpus: &mut List<PvCpu>,
 )
-    requires locks { locks_of domain.now.plan ≡ 2 }
-    requires cpus { cpus_of domain.now.plan ≡ 4 }
+    requires locks { locks_of domain.now.domain.plan ≡ 2 }
+    requires cpus { cpus_of domain.now.domain.plan ≡ 4 }
     requires dealt { AreDealt domain.now cpus.old.items }
 {
     thread::for_each_mut(

@@ -6,7 +6,8 @@ ghost use Rattle.lk_domain.specs.Plans.{accounts_of};
 ghost use Rattle.lk_guard.specs.Holding.{HoldsFirst};
 ghost use Rattle.lk_guard.specs.Idle.{IsFree};
 ghost use Rattle.lk_pvdomain.specs.PvCalls.{IsResting};
-ghost use Rattle.lk_pvdomain.specs.PvSeats.{IsOf, IsSame, calls_of, ledger_of};
+ghost use Rattle.lk_domain.specs.Seats.{IsSame, calls_of, ledger_of};
+ghost use Rattle.lk_pvdomain.specs.PvSeats.{IsOf};
 
 use crate::pv_region::open;
 use lk_abs::{Job, Reply};
@@ -38,7 +39,7 @@ fn hold<R: Wait>(cpu: &mut PvCpu, rt: &R, domain: &PvDomain)
 // it was.
 fn bring_back(cpu: &mut PvCpu, domain: &PvDomain)
     requires domain { IsOf cpu.old domain.now }
-    requires account { 0 < accounts_of domain.now.plan }
+    requires account { 0 < accounts_of domain.now.domain.plan }
     requires rests { IsResting (calls_of cpu.old) }
     requires holding { HoldsFirst Spins (calls_of cpu.old) }
     requires home { (ledger_of cpu.old).out ≡ None }
@@ -56,7 +57,7 @@ fn bring_back(cpu: &mut PvCpu, domain: &PvDomain)
 // The version of the ledger, and the balance of account 0 before and after that.
 fn look<R: Wait>(cpu: &mut PvCpu, rt: &R, domain: &PvDomain) -> (u64, u64, u64)
     requires domain { IsOf cpu.old domain.now }
-    requires account { 0 < accounts_of domain.now.plan }
+    requires account { 0 < accounts_of domain.now.domain.plan }
     requires free { IsFree cpu.old }
 {
     hold(cpu, rt, domain);

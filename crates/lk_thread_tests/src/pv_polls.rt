@@ -30,7 +30,7 @@ fn last(cpus: &mut List<PvCpu>, domain: &PvDomain) -> PvCpu
 
 // Begins a call.
 fn begins(cpu: &mut PvCpu, domain: &PvDomain) -> PvTurn
-    requires locks { locks_of domain.now.plan ≡ 2 }
+    requires locks { locks_of domain.now.domain.plan ≡ 2 }
     requires ready { IsReady domain.now cpu.old }
     ensures { StandsAt domain.now result cpu.new }
 {
@@ -47,7 +47,7 @@ fn polls(cpu: &mut PvCpu, domain: &PvDomain, waiter: PvWaiter) -> PvTurn
 
 // Frees the lock, without waiting.
 fn frees(cpu: &mut PvCpu, domain: &PvDomain) -> PvRelease
-    requires locks { locks_of domain.now.plan ≡ 2 }
+    requires locks { locks_of domain.now.domain.plan ≡ 2 }
     requires has { HasOne domain.now cpu.old }
 {
     pv_try_unlock(cpu, domain, LOCK)
@@ -56,7 +56,7 @@ fn frees(cpu: &mut PvCpu, domain: &PvDomain) -> PvRelease
 // Whether the second processor halts while the first has the lock, until that frees it, and says whom
 // it has kicked.
 fn halts<R: Wait>(rt: &R, domain: &PvDomain, first: &mut PvCpu, second: &mut PvCpu) -> bool
-    requires locks { locks_of domain.now.plan ≡ 2 }
+    requires locks { locks_of domain.now.domain.plan ≡ 2 }
     requires first { IsReady domain.now first.old }
     requires second { IsReady domain.now second.old }
 {
@@ -82,7 +82,7 @@ fn halts<R: Wait>(rt: &R, domain: &PvDomain, first: &mut PvCpu, second: &mut PvC
 
 // Takes the lock by turns. Where its processor has halted it asks again and again, and sleeps nowhere.
 fn take_by_turns<R: Wait>(cpu: &mut PvCpu, rt: &R, domain: &PvDomain)
-    requires locks { locks_of domain.now.plan ≡ 2 }
+    requires locks { locks_of domain.now.domain.plan ≡ 2 }
     requires ready { IsReady domain.now cpu.old }
     ensures { HasOne domain.now cpu.new }
 {
@@ -101,7 +101,7 @@ fn take_by_turns<R: Wait>(cpu: &mut PvCpu, rt: &R, domain: &PvDomain)
 
 // What a thread does: the number is read and stored in two steps, so that no other may come between.
 fn take_turns<R: Wait>(cpu: &mut PvCpu, rt: &R, domain: &PvDomain, number: &AtomicU64)
-    requires locks { locks_of domain.now.plan ≡ 2 }
+    requires locks { locks_of domain.now.domain.plan ≡ 2 }
     requires ready { IsReady domain.now cpu.old }
     ensures ready { IsReady domain.now cpu.new }
 {

@@ -16,7 +16,7 @@ use std::thread::Threads;
 
 /// One empty account, and four processors that may write 1,000 entries each.
 pub fn open(alloc: Global) -> Result<(PvRegion, List<PvCpu>), Memory>
-    ensures accounts { IfOk result (λ made. accounts_of made.0.domain.plan ≡ 1) }
+    ensures accounts { IfOk result (λ made. accounts_of made.0.domain.domain.plan ≡ 1) }
     ensures many { IfOk result (λ made. length made.1.items ≡ 4) }
     ensures ready { IfOk result (λ made. AllMayWrite made.0.domain 1000 made.1.items) }
 {
@@ -33,7 +33,7 @@ pub fn open(alloc: Global) -> Result<(PvRegion, List<PvCpu>), Memory>
 
 // What a thread does.
 fn add_all<R: Wait>(rt: &R, region: &PvRegion, cpu: &mut PvCpu)
-    requires account { accounts_of region.now.domain.plan ≡ 1 }
+    requires account { accounts_of region.now.domain.domain.plan ≡ 1 }
     requires ready { MayWrite region.now.domain 1000 cpu.old }
     ensures ready { MayWrite region.now.domain 0 cpu.new }
 {
@@ -52,7 +52,7 @@ fn add_all<R: Wait>(rt: &R, region: &PvRegion, cpu: &mut PvCpu)
 
 // Those of a slice at once.
 fn add_each<R: Threads + Wait + Sync>(rt: &R, region: &PvRegion, cpus: &mut [PvCpu])
-    requires account { accounts_of region.now.domain.plan ≡ 1 }
+    requires account { accounts_of region.now.domain.domain.plan ≡ 1 }
     requires ready { AllMayWrite region.now.domain 1000 cpus.old }
     ensures many { length cpus.new ≡ length cpus.old }
     ensures ready { AllMayWrite region.now.domain 0 cpus.new }
@@ -62,7 +62,7 @@ fn add_each<R: Threads + Wait + Sync>(rt: &R, region: &PvRegion, cpus: &mut [PvC
         cpus,
         4,
         &|_: usize, cpu: &mut PvCpu|
-            requires { (accounts_of region.now.domain.plan ≡ 1)
+            requires { (accounts_of region.now.domain.domain.plan ≡ 1)
                 × MayWrite region.now.domain 1000 cpu.now }
             ensures { MayWrite region.entry.now.domain 0 cpu.exit.now }
         { add_all(rt, region, cpu) },
@@ -71,7 +71,7 @@ fn add_each<R: Threads + Wait + Sync>(rt: &R, region: &PvRegion, cpus: &mut [PvC
 
 // All of them at once.
 fn add_at_once<R: Threads + Wait + Sync>(rt: &R, region: &PvRegion, cpus: &mut List<PvCpu>)
-    requires account { accounts_of region.now.domain.plan ≡ 1 }
+    requires account { accounts_of region.now.domain.domain.plan ≡ 1 }
     requires ready { AllMayWrite region.now.domain 1000 cpus.old.items }
     ensures many { length cpus.new.items ≡ length cpus.old.items }
     ensures ready { AllMayWrite region.now.domain 0 cpus.new.items }

@@ -31,7 +31,7 @@ type Counter = KeyCell<u64, Any>;
 // lock 1.
 fn open(alloc: Global) -> Result<(PvDomain, List<PvCpu>, Counter), Memory>
     ensures valued { IfOk result (λ made. IsValued made.0 made.2.table.shared.table_id) }
-    ensures many { IfOk result (λ made. length made.1.items ≡ cpus_of made.0.plan) }
+    ensures many { IfOk result (λ made. length made.1.items ≡ cpus_of made.0.domain.plan) }
     ensures dealt { IfOk result (λ made. AreDealt made.0 made.1.items) }
 {
     let plan = PvPlan {
@@ -96,7 +96,7 @@ fn take_all_turns<R: Threads + Wait + Sync>(
 // The key of lock 1, once the domain is closed.
 fn key_at_end(alloc: Global, domain: PvDomain, cpus: List<PvCpu>) -> Result<Key, Memory>
     requires valued { (cell : TableId) × IsValued domain cell }
-    requires many { length cpus.items ≡ cpus_of domain.plan }
+    requires many { length cpus.items ≡ cpus_of domain.domain.plan }
     requires rest { AllRest domain cpus.items }
     ensures key { (cell : TableId) → IsValued domain cell → IfOk result (IsKey cell) }
 {

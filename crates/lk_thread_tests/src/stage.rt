@@ -103,6 +103,7 @@ pub fn play_all<R: Threads + Wait + Sync, S: Scene + Sync>(
     scene: &S,
     cpus: &mut List<Cpu>,
 )
+    requires awake { halts domain.now.plan.mode ≡ false }
     requires spins { AreAll Spin domain.now.plan }
     requires locks { locks_of domain.now.plan ≡ LOCKS }
     requires rest { AllRest domain.now cpus.old.items }
@@ -150,6 +151,7 @@ pub fn open(
     requires awake { halts mode ≡ false }
     requires some { 1 ≤ cpus }
     requires few { cpus ≤ 64 }
+    ensures awake { IfOk result (λ made. halts made.0.plan.mode ≡ false) }
     ensures mode { IfOk result (λ made. made.0.plan.mode ≡ mode) }
     ensures locks { IfOk result (λ made. locks_of made.0.plan ≡ LOCKS) }
     ensures kinds { IfOk result (λ made. AreAll kind made.0.plan) }
@@ -185,6 +187,7 @@ fn plan_of_two(alloc: Global, format: Format) -> Result<Plan, Memory>
 
 /// Such a domain.
 pub fn open_two(alloc: Global, format: Format) -> Result<(Domain, List<Cpu>), Memory>
+    ensures awake { IfOk result (λ made. halts made.0.plan.mode ≡ false) }
     ensures locks { IfOk result (λ made. locks_of made.0.plan ≡ LOCKS) }
     ensures kinds { IfOk result (λ made. AreAll Spin made.0.plan) }
     ensures many { IfOk result (λ made. length made.1.items ≡ 6) }
@@ -197,6 +200,7 @@ pub fn open_two(alloc: Global, format: Format) -> Result<(Domain, List<Cpu>), Me
 
 /// Whether a handler may take the lock on the processor that it is lent.
 pub fn may_visit(cpu: &Cpu, domain: &Domain, id: LockId) -> bool
+    requires { IsOf cpu.now domain.now }
     ensures { result ≡ true → MayVisit domain.now id.index cpu.now }
 {
     id.index != 0
@@ -209,6 +213,7 @@ pub fn may_visit(cpu: &Cpu, domain: &Domain, id: LockId) -> bool
 
 /// Takes the last processor of this domain off.
 pub fn take_last(cpus: &mut List<Cpu>, domain: &Domain) -> Cpu
+    requires awake { halts domain.now.plan.mode ≡ false }
     requires some { 0 < length cpus.old.items }
     requires rest { AllRest domain.now cpus.old.items }
     ensures domain { IsOf result domain.now }

@@ -14,7 +14,7 @@ use Rattle.lk_guard.specs.Idle.{IsFree, pv_crew_of}
 use Rattle.lk_guard.specs.Deeds.{writes_in}
 use Rattle.lk_pvdomain.specs.PvPlans.{IsLawful as IsLawfulPv, IsPlanOf}
 use Rattle.lk_pvdomain.specs.PvSeats.{AllRest, AreDealt}
-use Rattle.lk_pvdomain.specs.declared.cpu.PvCpu.{PvCpu}
+use Rattle.lk_domain.specs.declared.cpu.Cpu.{Cpu}
 use Rattle.lk_pvdomain.specs.declared.domain.PvDomain.{PvDomain}
 use Rattle.lk_pvdomain.specs.declared.plan.PvPlan.{PvPlan}
 use Rattle.lk_workers.specs.Plans.{IsFor, IsPvPlanOf}
@@ -57,7 +57,7 @@ suits work p k lawful mode for of =
     }
 
 -- its new processors are dealt
-pub dealt : (d : PvDomain) (cpus : List PvCpu) → AreDealt d cpus → InOrder (IsDealt (pv_crew_of d)) cpus
+pub dealt : (d : PvDomain) (cpus : List Cpu) → AreDealt d cpus → InOrder (IsDealt (pv_crew_of d)) cpus
 dealt d cpus all i c within =
     let new = all i c within in
     let frames = ap (λ (s : Calls). s.frames) new.calls in
@@ -68,7 +68,7 @@ dealt d cpus all i c within =
     record { rests = record { ready = (new.domain_is, free); number = new.number; who = new.who }; ledger = new.ledger }
 
 -- and at their end they rest
-pub rest : (d : PvDomain) (cpus : List PvCpu) → InOrder (Rests (pv_crew_of d)) cpus → AllRest d cpus
+pub rest : (d : PvDomain) (cpus : List Cpu) → InOrder (Rests (pv_crew_of d)) cpus → AllRest d cpus
 rest d cpus all i c within =
     let r = all i c within in
     let nothing = r.ready.1.nothing in

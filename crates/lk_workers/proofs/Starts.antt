@@ -21,6 +21,7 @@ use Rattle.lk_domain.specs.Seats.{AreDealt, view_of}
 use Rattle.lk_domain.specs.declared.cpu.Cpu.{Cpu}
 use Rattle.lk_domain.specs.declared.domain.Domain.{Domain}
 use Rattle.lk_domain.specs.declared.plan.Plan.{Plan}
+use Rattle.lk_domain.proofs.Seating.{in_of, of_in}
 use Rattle.lk_guard.specs.Idle.{Being, Crew, Stays, crew_of}
 use Rattle.lk_guard.specs.Deeds.{Worked, writes_in}
 use Rattle.lk_guard.specs.Guards.{guard_in}
@@ -64,17 +65,17 @@ suits work k j awake lawful same of = record {
 }
 
 -- its new processors are dealt
-pub dealt : (d : Domain) (cpus : List Cpu) → AreDealt d cpus → InOrder (IsDealt (crew_of d)) cpus
-dealt d cpus all i c within =
+pub dealt : (d : Domain) (cpus : List Cpu) → halts d.plan.mode ≡ false → AreDealt d cpus → InOrder (IsDealt (crew_of d)) cpus
+dealt d cpus awake all i c within =
     let new = all i c within in
     let nothing : HoldsNothing (view_of (get_or cpus i c)) = record { frames = ap (λ (s : Calls). s.frames) new.calls; holds = ap (λ (s : Calls). s.holds) new.calls; home = ap (λ (g : Ledger). g.out) new.ledger } in
-    record { rests = record { ready = (new.domain_is, nothing); number = new.number; who = new.who }; ledger = new.ledger }
+    record { rests = record { ready = (of_in (get_or cpus i c) d new.domain_is awake, nothing); number = new.number; who = new.who }; ledger = new.ledger }
 
 -- and at their end they rest
 pub rest : (d : Domain) (cpus : List Cpu) → InOrder (Rests (crew_of d)) cpus → AllRest d cpus
 rest d cpus all i c within =
     let r = all i c within in
-    record { domain_is = r.ready.0; number = r.number; who = r.who; frames = r.ready.1.frames; holds = r.ready.1.holds; home = r.ready.1.home }
+    record { domain_is = in_of (get_or cpus i c) d r.ready.0; number = r.number; who = r.who; frames = r.ready.1.frames; holds = r.ready.1.holds; home = r.ready.1.home }
 
 module _ {C : Type 0} (crew : Crew C) where
   -- workers on new processors, with room for their records, are ready

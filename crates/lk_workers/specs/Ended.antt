@@ -10,7 +10,6 @@ use Rattle.lk_domain.specs.Ledgers.{Look}
 use Rattle.lk_domain.specs.Plans.{kind_at}
 use Rattle.lk_domain.specs.Seats.{ledger_of}
 use Rattle.lk_guard.specs.Idle.{Crew}
-use Rattle.lk_pvdomain.specs.PvSeats.{ledger_of as pv_ledger}
 use Rattle.lk_workers.specs.declared.ended.Ended.{Ended}
 use Rattle.lk_workers.specs.declared.ended.Ended.TheVariants.{Queued, Pv}
 
@@ -26,7 +25,7 @@ balances_in (Pv closed) = closed.balances.items
 -- the looks of each processor, in order of their numbers
 abbrev pub looks_in : Ended → List (List Look)
 looks_in (Queued closed) = map (λ cpu. (ledger_of cpu).looks) closed.cpus.value.items
-looks_in (Pv closed) = map (λ cpu. (pv_ledger cpu).looks) closed.cpus.value.items
+looks_in (Pv closed) = map (λ cpu. (ledger_of cpu).looks) closed.cpus.value.items
 
 -- it is that of a domain of this mode's family, with this guard
 abbrev pub IsEndOf : Mode → Kind → Ended → Type 0

@@ -71,8 +71,8 @@ impl Host for PvRegion {
     }
 
     fn end(self, alloc: Global, cpus: List<PvCpu>) -> Result<Ended, Memory>
-        requires mode { self.domain.plan.mode ≡ Pv }
-        requires all { length cpus.items ≡ cpus_of self.domain.plan }
+        requires mode { self.domain.domain.plan.mode ≡ Pv }
+        requires all { length cpus.items ≡ cpus_of self.domain.domain.plan }
         requires rest { InOrder (Rests (pv_crew_of self.domain)) cpus.items }
         ensures { IfOk result (λ ended. IsEnd (pv_crew_of self.domain) cpus.items ended) }
     {

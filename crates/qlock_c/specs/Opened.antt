@@ -66,7 +66,7 @@ pub record AreHalting (kinds : List ℕ) (spins : ℕ) (cpus : List Processor) :
   pub asked : PvPlan
   pub is : PvIsAsked (length kinds) (length cpus) spins asked
   pub domain : PvDomain
-  pub plan : IsPlanOf asked domain.plan
+  pub plan : IsPlanOf asked domain.domain.plan
   pub each : AreHaltingHandlesOf domain cpus
 
 -- The processors were opened that were asked for, by the number of their family: 3 for the one whose waiters

@@ -29,15 +29,15 @@ use Rattle.lk_domain.specs.Plays.{went, rowed, made, WentBy, MadeBy, Acts}
 use Rattle.lk_domain.specs.Rows.{arrives_by}
 use Rattle.lk_domain.specs.declared.part.Part.{Part}
 use Rattle.lk_domain.specs.declared.plan.Plan.{Plan}
+use Rattle.lk_domain.specs.declared.domain.Domain.{Domain}
 use Rattle.lk_domain.specs.declared.view.View.{View}
-use Rattle.lk_pvdomain.specs.declared.domain.PvDomain.{PvDomain}
 use Rattle.lk_pvdomain.specs.PvPlays.{woken}
 use Rattle.lk_pvdomain.specs.PvPaths.{Start, starting, AtOn, HaltedOn, RestsOn, TookOn, EndedOn, Owns, Follows, Spares, Steals, still}
 use Rattle.lk_domain.proofs.Ways as seat
 use Rattle.lk_word.specs.declared.spin_word.Layout.{Layout}
 use Rattle.lk_word.specs.SpinWord.{packed}
 use Rattle.lk_pvdomain.proofs.Fails.{steal_again, steal_failed}
-use Rattle.lk_pvdomain.proofs.ways.Ways.{Goes, Ends, Drops, goes, takes, drops, stands}
+use Rattle.lk_pvdomain.proofs.ways.Ways.{Goes, Ends, Drops, moved_seat, goes, takes, drops, stands}
 use Rattle.lk_pvdomain.proofs.ways.Leads.{acts, went_on}
 use Rattle.lk_pvdomain.proofs.ways.Hands.{plain}
 
@@ -56,7 +56,7 @@ held_by : (layout : Layout) (n : ℕ) (y : Fields) → n ≡ packed layout y →
 held_by layout n y is h = seat.not_zero layout n y is (ne_eqb n 0 h)
 
 -- a call begins
-module _ {d : PvDomain} {own : NodeName} {ta : TableId} {a : Me Slot View} (r : RestsOn d own ta a) (v : Verb) (l : ℕ) (ia : ℕ) (low : l < locks_of d.plan) where
+module _ {d : Domain} {own : NodeName} {ta : TableId} {a : Me Slot View} (r : RestsOn d own ta a) (v : Verb) (l : ℕ) (ia : ℕ) (low : l < locks_of d.plan) where
   abbrev pub met : Me Slot View
   met = (record a.0 { calls = begin d.plan.mode a.0.calls v l }, a.1)
 
@@ -68,7 +68,7 @@ module _ {d : PvDomain} {own : NodeName} {ta : TableId} {a : Me Slot View} (r : 
 
   pub first : AtOn d v l own (starting v l ta ia a) (first_place d.plan.mode v) Any ta ia met
   first = record {
-    of = record { table_is = r.of.table_is; plan = r.of.plan; number = r.of.number; near = r.of.near; index = r.of.index };
+    of = moved_seat r.of refl refl;
     low = low;
     table_was = refl;
     id_was = refl;
@@ -117,7 +117,7 @@ module _ {d : PvDomain} {own : NodeName} {ta : TableId} {a : Me Slot View} (r : 
       few e = omega (arith, e)
 
   pub is_spin : kind_at a.0.who.plan l ≡ Spin
-  is_spin = subst (λ (k : Plan). kind_at k l ≡ Spin) (sym r.of.plan) (d.lawful.spins d.halting l)
+  is_spin = subst (λ (k : Plan). kind_at k l ≡ Spin) (sym r.of.plan) (d.lawful.spins r.of.halting l)
 
 -- where each leads
 module _ {t : Terms} {p : ℕ} {z : Outlook} (f : Frame) where
@@ -197,7 +197,7 @@ module _ {t : Terms} {p : ℕ} {z : Outlook} {own : NodeName} (f : Frame) where
       by Cna h = cc h
 
 -- what each asks
-module _ {d : PvDomain} {l : ℕ} {own : NodeName} {s : Start} {c : Pc} {P : Frame → Type 0} {ta : TableId} {ia : ℕ}
+module _ {d : Domain} {l : ℕ} {own : NodeName} {s : Start} {c : Pc} {P : Frame → Type 0} {ta : TableId} {ia : ℕ}
     {a : Me Slot View} (w : AtOn d Lock l own s c P ta ia a) where
   abbrev pub row_of_it : AtRow c Lock (lock_name l) a.0
   row_of_it = record { stands = stands w; patient = refl; inside = refl; after = λ e. absurd (cc e) }
@@ -205,7 +205,7 @@ module _ {d : PvDomain} {l : ℕ} {own : NodeName} {s : Start} {c : Pc} {P : Fra
   pub tail_asks : arrives_by Lock c ≡ true → w.frame.me ≡ Some own → InCall (Arrives (lock_name l) own) a.0
   tail_asks is me = (Lock, record { acts = record { acts = acts w (arrives_by Lock) is; inside = refl; after = λ e. absurd (cc e) }; me = me })
 
-module _ {d : PvDomain} {l : ℕ} {own prev : NodeName} {s : Start} {ta : TableId} {ia : ℕ} {a : Me Slot View}
+module _ {d : Domain} {l : ℕ} {own prev : NodeName} {s : Start} {ta : TableId} {ia : ℕ} {a : Me Slot View}
     (w : AtOn d Lock l own s G5 (Follows own prev) ta ia a) where
   pub link_asks : InCall (AtPrev prev own false) a.0
   link_asks = (Lock, record { lock = lock_name l; at = row_of_it w; prev = w.has.prev; me = w.has.me; marks = ap is_inner (sym w.ctx) })
@@ -214,7 +214,7 @@ module _ {d : PvDomain} {l : ℕ} {own prev : NodeName} {s : Start} {ta : TableI
 none_slow : (v : Verb) (f : Frame) (t : List Mark) (fs : List Running) → fs ≡ running v f t ∷ [] → f.place ≡ Some G1 → slows fs ≡ 0
 none_slow v f t fs e p = ap slows e ∙ ap (λ o. (if is_slow o then 1 else 0) + 0) p
 
-module _ {d : PvDomain} {l : ℕ} {own : NodeName} {s : Start} {P : Frame → Type 0} {ta : TableId} {ia : ℕ}
+module _ {d : Domain} {l : ℕ} {own : NodeName} {s : Start} {P : Frame → Type 0} {ta : TableId} {ia : ℕ}
     {a : Me Slot View} (w : AtOn d Lock l own s G1 P ta ia a) where
   pub entry_asks : InCall (AtEntry own) a.0
   entry_asks = (
@@ -229,7 +229,7 @@ module _ {d : PvDomain} {l : ℕ} {own : NodeName} {s : Start} {P : Frame → Ty
   )
 
 -- what each does
-module _ {d : PvDomain} {v : Verb} {l : ℕ} {own : NodeName} {s : Start} {ta tb : TableId} {ia ib : ℕ} {a b : Me Slot View}
+module _ {d : Domain} {v : Verb} {l : ℕ} {own : NodeName} {s : Start} {ta tb : TableId} {ia ib : ℕ} {a b : Me Slot View}
     (same : (tb ≡ ta) × (ib ≡ ia)) where
   -- a step that changed nothing of the call
   pub kept : {c : Pc} {P : Frame → Type 0} → AtOn d v l own s c P ta ia a → b ≡ a → AtOn d v l own s c P tb ib b
@@ -250,7 +250,7 @@ module _ {d : PvDomain} {v : Verb} {l : ℕ} {own : NodeName} {s : Start} {ta tb
   readied {c} {P} q w e =
       subst (λ (m : Me Slot View). AtOn d v l own s c P tb ib m) (sym e)
       (record {
-        of = record { table_is = same.0 ∙ w.of.table_is; plan = w.of.plan; number = w.of.number; near = w.of.near; index = w.of.index };
+        of = moved_seat w.of same.0 refl;
         low = w.low;
         table_was = same.0 ∙ w.table_was;
         id_was = same.1 ∙ w.id_was;
@@ -273,7 +273,7 @@ module _ {d : PvDomain} {v : Verb} {l : ℕ} {own : NodeName} {s : Start} {ta tb
 
   pub g1_enters : {P : Frame → Type 0} → AtOn d v l own s G1 P ta ia a → b ≡ (went a.0 (Number (slows a.0.calls.frames)), a.1) → AtOn d v l own s H1 (Owns own) tb ib b
   g1_enters w step = goes w same (Number (slows a.0.calls.frames)) step H1 (Owns own)
-      (G1_enters w.frame (slows a.0.calls.frames) d.halting (none_slow v w.frame w.trail a.0.calls.frames w.frames w.place) refl w.of.index)
+      (G1_enters w.frame (slows a.0.calls.frames) w.of.halting (none_slow v w.frame w.trail a.0.calls.frames w.frames w.place) refl w.of.index)
 
   pub h1_looks : {met : ℕ} → AtOn d v l own s H1 (Owns own) ta ia a → (k : WentBy a met b)
       → AtOn d v l own s (after_glance (Some own) k.found) (Steals own (is_some k.found.tail)) tb ib b
@@ -292,18 +292,18 @@ module _ {d : PvDomain} {v : Verb} {l : ℕ} {own : NodeName} {s : Start} {ta tb
       (H2_joins w.frame k.found (un_on (is_unlocked k.found.locked) (steal_failed _ k.found _ k.word ne)) w.has)
 
   pub g4_first : {met : ℕ} → AtOn d v l own s G4 (Owns own) ta ia a → (k : WentBy a met b) → k.found.tail ≡ None → AtOn d v l own s E1 (Owns own) tb ib b
-  g4_first w k e = goes w same (Word k.found) k.seat E1 (Owns own) (G4_first w.frame k.found d.halting e w.has)
+  g4_first w k e = goes w same (Word k.found) k.seat E1 (Owns own) (G4_first w.frame k.found w.of.halting e w.has)
 
   pub g4_behind : {met : ℕ} {prev : NodeName} → AtOn d v l own s G4 (Owns own) ta ia a → (k : WentBy a met b) → k.found.tail ≡ Some prev
       → AtOn d v l own s G5 (Follows own prev) tb ib b
-  g4_behind {prev} w k e = goes w same (Word k.found) k.seat G5 (Follows own prev) (G4_behind w.frame k.found prev d.halting e w.has)
+  g4_behind {prev} w k e = goes w same (Word k.found) k.seat G5 (Follows own prev) (G4_behind w.frame k.found prev w.of.halting e w.has)
 
   pub g5_links : {prev : NodeName} → AtOn d v l own s G5 (Follows own prev) ta ia a → b ≡ (went a.0 (Named None), a.1)
       → AtOn d v l own s W1 (Spares own prev (turns_of d.plan)) tb ib b
-  g5_links {prev} w step = goes w same (Named None) step W1 (Spares own prev (turns_of d.plan)) (G5_links w.frame prev d.halting w.has)
+  g5_links {prev} w step = goes w same (Named None) step W1 (Spares own prev (turns_of d.plan)) (G5_links w.frame prev w.of.halting w.has)
 
 -- the first row
-module _ {d : PvDomain} {l : ℕ} {own : NodeName} {ta tb : TableId} {ia ib : ℕ} {a b : Me Slot View}
+module _ {d : Domain} {l : ℕ} {own : NodeName} {ta tb : TableId} {ia ib : ℕ} {a b : Me Slot View}
     (same : (tb ≡ ta) × (ib ≡ ia)) where
   pub f1_takes : {met' : ℕ} (r : RestsOn d own ta a) (low : l < locks_of d.plan) (k : MadeBy Lock l a met' b) → met' ≡ 0
       → TookOn d Lock l own (starting Lock l ta ia a) tb ib b
@@ -317,10 +317,10 @@ module _ {d : PvDomain} {l : ℕ} {own : NodeName} {ta tb : TableId} {ia ib : �
   unfolding first
   f1_goes r low k ne =
       goes (first r Lock l ia low) same (Word k.found) (first_step r Lock l ia low (Word k.found) k.seat) G1 Any
-      (F1_goes (begun d.plan.mode 0 Lock l) k.found d.halting (held_by _ _ k.found k.word ne))
+      (F1_goes (begun d.plan.mode 0 Lock l) k.found r.of.halting (held_by _ _ k.found k.word ne))
 
 -- the rows of a try
-module _ {d : PvDomain} {l : ℕ} {own : NodeName} {ta tb : TableId} {ia ib : ℕ} {a b : Me Slot View}
+module _ {d : Domain} {l : ℕ} {own : NodeName} {ta tb : TableId} {ia ib : ℕ} {a b : Me Slot View}
     (same : (tb ≡ ta) × (ib ≡ ia)) where
   pub t1_sees : {n : ℕ} (r : RestsOn d own ta a) (low : l < locks_of d.plan) (k : MadeBy Try l a n b) → n ≡ 0
       → AtOn d Try l own (starting Try l ta ia a) T2 Any tb ib b
@@ -346,7 +346,7 @@ module _ {d : PvDomain} {l : ℕ} {own : NodeName} {ta tb : TableId} {ia ib : �
 
 -- how a thief goes on
 
-owns : {d : PvDomain} {v : Verb} {l : ℕ} {own : NodeName} {s : Start} {c : Pc} {tailed : Bool} {ta : TableId} {ia : ℕ} {a : Me Slot View}
+owns : {d : Domain} {v : Verb} {l : ℕ} {own : NodeName} {s : Start} {c : Pc} {tailed : Bool} {ta : TableId} {ia : ℕ} {a : Me Slot View}
     → AtOn d v l own s c (Steals own tailed) ta ia a → AtOn d v l own s c (Owns own) ta ia a
 owns w = record {
   of = w.of;
@@ -381,7 +381,7 @@ glance_joins : (own : NodeName) (x : Fields) → (is_unlocked x.locked && not x.
     → after_glance (Some own) x ≡ G4
 glance_joins own x e f = rw e (rw f refl)
 
-module _ {d : PvDomain} {v : Verb} {l : ℕ} {own : NodeName} {s : Start} {ta : TableId} {ia : ℕ} {a : Me Slot View} (x : Fields)
+module _ {d : Domain} {v : Verb} {l : ℕ} {own : NodeName} {s : Start} {ta : TableId} {ia : ℕ} {a : Me Slot View} (x : Fields)
     (w : AtOn d v l own s (after_glance (Some own) x) (Steals own (is_some x.tail)) ta ia a) where
   pub steals : (is_unlocked x.locked && not x.pending) ≡ true → AtOn d v l own s H2 (Steals own (is_some x.tail)) ta ia a
   steals e = subst (λ c. AtOn d v l own s c (Steals own (is_some x.tail)) ta ia a) (glance_steals own x e) w

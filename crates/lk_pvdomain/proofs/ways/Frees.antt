@@ -14,6 +14,7 @@ use Rattle.lk_word.specs.declared.spin_word.NodeName.{NodeName}
 use Rattle.lk_word.specs.declared.spin_word.Fields.{Fields}
 use Rattle.lk_rows.specs.declared.parts.Frame.{Frame}
 use Rattle.lk_rows.specs.declared.parts.Pc.TheVariants.{U2, U3, U4, U5}
+use Rattle.lk_rows.specs.declared.setup.Verb.{Verb}
 use Rattle.lk_rows.specs.declared.setup.Verb.TheVariants.{Try, Unlock}
 use Rattle.lk_rows.specs.Moves.{first_place, node_of}
 use Rattle.lk_rows.specs.rows.Cna.{is_held}
@@ -27,9 +28,9 @@ use Rattle.lk_domain.specs.Paths.{Any}
 use Rattle.lk_domain.specs.Plans.{locks_of}
 use Rattle.lk_domain.specs.Plays.{went, WentBy, MadeBy}
 use Rattle.lk_domain.specs.Words.{pair_number}
+use Rattle.lk_domain.specs.declared.domain.Domain.{Domain}
 use Rattle.lk_domain.specs.declared.view.View.{View}
 use Rattle.lk_domain.specs.declared.plan.TheConstants.{MOST_LOCKS}
-use Rattle.lk_pvdomain.specs.declared.domain.PvDomain.{PvDomain}
 use Rattle.lk_pvdomain.specs.PvPaths.{Start, starting, AtOn, RestsOn, EndedOn, Kicks, freed, Took, Ended, first_of}
 use Rattle.lk_pvdomain.specs.PvPlays.{AtKick, EmptiesAt}
 use Rattle.atomic_table.specs.declared.shared.Seat.{Seat}
@@ -73,19 +74,19 @@ kicked_more : (o : Option ℕ) (ks : List Mark) (k : Mark) → kicked_from o (ks
 kicked_more o [] k = refl
 kicked_more o (x ∷ ks) k = kicked_more (found_at x.row x.met o) ks k
 
-module _ {d : PvDomain} {l : ℕ} {own : NodeName} {ta : TableId} {a : Me Slot View} (r : RestsOn d own ta a) (ia : ℕ) (low : l < locks_of d.plan) where
+module _ {d : Domain} {l : ℕ} {own : NodeName} {ta : TableId} {a : Me Slot View} (r : RestsOn d own ta a) (ia : ℕ) (low : l < locks_of d.plan) where
   begun_at : AtOn d Unlock l own (starting Unlock l ta ia a) U2 Any ta ia (met r Unlock l ia low)
-  begun_at = subst (λ c. AtOn d Unlock l own (starting Unlock l ta ia a) c Any ta ia (met r Unlock l ia low)) (first_is d.plan.mode d.halting)
+  begun_at = subst (λ c. AtOn d Unlock l own (starting Unlock l ta ia a) c Any ta ia (met r Unlock l ia low)) (first_is d.plan.mode r.of.halting)
       (first r Unlock l ia low)
 
   -- where it has no row yet
   begun_trail : begun_at.trail ≡ []
   unfolding begun_at
   begun_trail =
-      sym (λ j. (coe 0 j (i. AtOn d Unlock l own (starting Unlock l ta ia a) (first_is d.plan.mode d.halting i) Any ta ia (met r Unlock l ia low))
+      sym (λ j. (coe 0 j (i. AtOn d Unlock l own (starting Unlock l ta ia a) (first_is d.plan.mode r.of.halting i) Any ta ia (met r Unlock l ia low))
       (first r Unlock l ia low)).trail) ∙ first_trail r Unlock l ia low
 
-module _ {d : PvDomain} {l : ℕ} {own : NodeName} {ta tb : TableId} {ia ib : ℕ} {a b : Me Slot View} (same : (tb ≡ ta) × (ib ≡ ia))
+module _ {d : Domain} {l : ℕ} {own : NodeName} {ta tb : TableId} {ia ib : ℕ} {a b : Me Slot View} (same : (tb ≡ ta) × (ib ≡ ia))
     (r : RestsOn d own ta a) (low : l < locks_of d.plan) where
   pub u2_frees : {n : ℕ} (k : MadeBy Unlock l a n b) → n % 256 ≡ 1 → EndedOn d Unlock l own (starting Unlock l ta ia a) Frees tb ib b
   u2_frees k e =
@@ -106,7 +107,7 @@ module _ {d : PvDomain} {l : ℕ} {own : NodeName} {ta tb : TableId} {ia ib : �
       goes (begun_at r ia low) same (Word k.found) (first_step r Unlock l ia low (Word k.found) k.seat) U3 Any
       (U2_seeks (begun_at r ia low).frame k.found (held_on (is_held k.found.locked) (release_failed _ k.found _ k.word ne)))
 
-module _ {d : PvDomain} {l : ℕ} {own : NodeName} {s : Start} {ta tb : TableId} {ia ib : ℕ} {a b : Me Slot View}
+module _ {d : Domain} {l : ℕ} {own : NodeName} {s : Start} {ta tb : TableId} {ia ib : ℕ} {a b : Me Slot View}
     (same : (tb ≡ ta) × (ib ≡ ia)) where
   pub u3_finds : {n : ℕ} → AtOn d Unlock l own s U3 Any ta ia a → (k : EmptiesAt l a n b) → AtOn d Unlock l own s U4 (Kicks k.node) tb ib b
   u3_finds w k = goes w same (Named (Some k.node)) k.seat U4 (Kicks k.node) (U3_finds w.frame k.node)
@@ -120,7 +121,7 @@ module _ {d : PvDomain} {l : ℕ} {own : NodeName} {s : Start} {ta tb : TableId}
   u5_kicks found w step = ends w same (MarkedMet found) step Frees refl refl refl refl
 
 -- the processor that is kicked by the rows U3 to U5
-module _ {d : PvDomain} {l : ℕ} {own : NodeName} {s : Start} {t0 t1 t2 t3 : TableId} {i0 i1 i2 i3 : ℕ} {m0 m1 m2 m3 : Me Slot View}
+module _ {d : Domain} {l : ℕ} {own : NodeName} {s : Start} {t0 t1 t2 t3 : TableId} {i0 i1 i2 i3 : ℕ} {m0 m1 m2 m3 : Me Slot View}
     (same1 : (t1 ≡ t0) × (i1 ≡ i0)) (same2 : (t2 ≡ t1) × (i2 ≡ i1)) (same3 : (t3 ≡ t2) × (i3 ≡ i2))
     (v : AtOn d Unlock l own s U3 Any t0 i0 m0) {n : ℕ} (finds : EmptiesAt l m0 n m1) {n' : ℕ} (frees : WentBy m1 n' m2)
     (found : Bool) (kicks : m3 ≡ (went m2.0 (MarkedMet found), m2.1)) where
@@ -137,7 +138,7 @@ module _ {d : PvDomain} {l : ℕ} {own : NodeName} {s : Start} {t0 t1 t2 t3 : Ta
       ∙ kicked_more None v.trail _))))
 
 -- what a kick asks
-module _ {d : PvDomain} {l : ℕ} {own node : NodeName} {s : Start} {ta : TableId} {ia : ℕ} {a : Me Slot View}
+module _ {d : Domain} {l : ℕ} {own node : NodeName} {s : Start} {ta : TableId} {ia : ℕ} {a : Me Slot View}
     (w : AtOn d Unlock l own s U5 (Kicks node) ta ia a) where
   pub kick_asks : (cpu : ℕ) → node.cpu ≡ cpu → AllHome (lock_name l) a.0 → AtKick cpu a.0
   kick_asks cpu e home =
@@ -175,7 +176,7 @@ turned_twice g l t u = by (is_first l)
     by false = refl
 
 -- so a release that has freed the lock by U4 is over as one that has freed it once
-pub freed_once : {d : PvDomain} {l : ℕ} {own : NodeName} {s : Start} {tb : TableId} {ib : ℕ} {b : Me Slot View} (t : List Mark)
+pub freed_once : {d : Domain} {l : ℕ} {own : NodeName} {s : Start} {tb : TableId} {ib : ℕ} {b : Me Slot View} (t : List Mark)
     → EndedOn d Unlock l own (freed s l t) Frees tb ib b → EndedOn d Unlock l own s Frees tb ib b
 freed_once {l} {s} {b} t e =
     record {
@@ -226,7 +227,7 @@ pub record IsLet (old new : Seat Slot View) : Type 0 where
   pub awake : new.me.0.calls.halted ≡ false
   pub fresh : new.me.0.calls.looked ≡ 0
 
-pub is_let : (d : PvDomain) (l : ℕ) (own : NodeName) (old new : Seat Slot View)
+pub is_let : (d : Domain) (l : ℕ) (own : NodeName) (old new : Seat Slot View)
     → Ended d Unlock l own (first_of Unlock l old) Frees new → IsLet old new
 is_let d l own old new e =
     record {
@@ -248,11 +249,8 @@ out_taken g l t = by (is_first (lock_name l))
     by true = refl
     by false = refl
 
-pub is_tried : (d : PvDomain) (l : ℕ) (own : NodeName) (old new : Seat Slot View) (b : Bool)
-    → (b ≡ true → Took d Try l own (first_of Try l old) new) → (b ≡ false → Ended d Try l own (first_of Try l old) Unchanged new)
-    → IsLet old new
-is_tried d l own old new true took missed =
-    let e = took refl in
+pub is_taken : (d : Domain) (v : Verb) (l : ℕ) (own : NodeName) (old new : Seat Slot View) → Took d v l own (first_of v l old) new → IsLet old new
+is_taken d v l own old new e =
     record {
       table_was = e.over.table_was;
       id_was = e.over.id_was;
@@ -263,6 +261,11 @@ is_tried d l own old new true took missed =
       awake = e.over.awake;
       fresh = e.over.fresh;
     }
+
+pub is_tried : (d : Domain) (l : ℕ) (own : NodeName) (old new : Seat Slot View) (b : Bool)
+    → (b ≡ true → Took d Try l own (first_of Try l old) new) → (b ≡ false → Ended d Try l own (first_of Try l old) Unchanged new)
+    → IsLet old new
+is_tried d l own old new true took missed = is_taken d Try l own old new (took refl)
 is_tried d l own old new false took missed =
     let e = missed refl in
     record {
@@ -277,7 +280,7 @@ is_tried d l own old new false took missed =
     }
 
 -- nothing of the lock is held then, and all other holds stand
-module _ (d : PvDomain) (l : ℕ) (own : NodeName) (old new : Seat Slot View)
+module _ (d : Domain) (l : ℕ) (own : NodeName) (old new : Seat Slot View)
     (e : Ended d Unlock l own (first_of Unlock l old) Frees new) where
   pub freed_none : holds_in new.me.0.calls.holds l ≡ false
   freed_none = ap (λ (hs : List Hold). holds_in hs l) e.holds ∙ released 0 l old.me.0.calls.holds

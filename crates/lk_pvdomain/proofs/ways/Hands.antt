@@ -22,8 +22,8 @@ use Rattle.lk_domain.specs.NodePlays.{InCall, SeesLink}
 use Rattle.lk_domain.specs.NodeUses.{HandsTo, LooksBehind}
 use Rattle.lk_domain.specs.Plays.{went, WentBy}
 use Rattle.lk_domain.specs.Words.{state_number}
+use Rattle.lk_domain.specs.declared.domain.Domain.{Domain}
 use Rattle.lk_domain.specs.declared.view.View.{View}
-use Rattle.lk_pvdomain.specs.declared.domain.PvDomain.{PvDomain}
 use Rattle.lk_pvdomain.specs.PvPaths.{Start, AtOn, TookOn, Owns, Precedes}
 use Rattle.lk_pvdomain.specs.PvPlays.{AtLast, SeesState}
 use Rattle.lk_pvdomain.proofs.ways.Ways.{Goes, Ends, goes, takes, stands}
@@ -71,7 +71,7 @@ pub next_node : (f : Frame) (n : NodeName) → f.y ≡ Some n → node_of f.y �
 next_node f n e = ap node_of e
 
 -- what each asks, and does
-module _ {d : PvDomain} {v : Verb} {l : ℕ} {own : NodeName} {s : Start} {ta : TableId} {ia : ℕ} {a : Me Slot View} where
+module _ {d : Domain} {v : Verb} {l : ℕ} {own : NodeName} {s : Start} {ta : TableId} {ia : ℕ} {a : Me Slot View} where
   pub last_asks : AtOn d v l own s E13 (Owns own) ta ia a → InCall (AtLast own (lock_name l)) a.0
   last_asks w = (v, record { stands = stands w; me = w.has })
 
@@ -81,7 +81,7 @@ module _ {d : PvDomain} {v : Verb} {l : ℕ} {own : NodeName} {s : Start} {ta : 
   pub hand_asks : {to : NodeName} → AtOn d v l own s E15 (Precedes own to) ta ia a → InCall (HandsTo to Go) a.0
   hand_asks w = (v, inr (refl, record { lock = lock_name l; stands = stands w; y = w.has.next }))
 
-module _ {d : PvDomain} {v : Verb} {l : ℕ} {own : NodeName} {s : Start} {ta tb : TableId} {ia ib : ℕ} {a b : Me Slot View}
+module _ {d : Domain} {v : Verb} {l : ℕ} {own : NodeName} {s : Start} {ta tb : TableId} {ia ib : ℕ} {a b : Me Slot View}
     (same : (tb ≡ ta) × (ib ≡ ia)) where
   pub e13_leaves : {met : ℕ} → AtOn d v l own s E13 (Owns own) ta ia a → (k : WentBy a met b)
       → (is_held k.found.locked && not k.found.pending && is_node k.found.tail own) ≡ true → TookOn d v l own s tb ib b

@@ -24,9 +24,9 @@ use Rattle.lk_domain.specs.Keeps.{Slot}
 use Rattle.lk_domain.specs.Plans.{turns_of, turns_by}
 use Rattle.lk_domain.specs.Plays.{went, rowed, made, WentBy, MadeBy, Acts}
 use Rattle.lk_domain.specs.Words.{state_number}
+use Rattle.lk_domain.specs.declared.domain.Domain.{Domain}
 use Rattle.lk_domain.specs.declared.view.View.{View}
 use Rattle.lk_domain.proofs.Acting.{acting_is, acts_on, begins_on}
-use Rattle.lk_pvdomain.specs.declared.domain.PvDomain.{PvDomain}
 use Rattle.lk_pvdomain.specs.PvPaths.{Start, AtOn, HaltedOn, Owns, Leads, Tries}
 use Rattle.lk_domain.specs.NodePlays.{InCall}
 use Rattle.lk_domain.specs.Uses.{UsesWord, uses}
@@ -141,7 +141,7 @@ module _ {t : Terms} {p : ℕ} {z : Outlook} {own : NodeName} (f : Frame) where
   E11_else x e i = record { place = rw e refl; grip = refl; lock = refl; wakes = refl; has = record { me = i.me; hashed_is = i.hashed_is } }
 
 -- what each asks
-module _ {d : PvDomain} {v : Verb} {l : ℕ} {own : NodeName} {s : Start} {c : Pc} {P : Frame → Type 0} {ta : TableId} {ia : ℕ}
+module _ {d : Domain} {v : Verb} {l : ℕ} {own : NodeName} {s : Start} {c : Pc} {P : Frame → Type 0} {ta : TableId} {ia : ℕ}
     {a : Me Slot View} (w : AtOn d v l own s c P ta ia a) where
   pub word_asks : (how : WordUse) → uses how c ≡ true → InCall (UsesWord how (lock_name l)) a.0
   word_asks how is = (v, record { row = c; is = is; stands = stands w })
@@ -166,7 +166,7 @@ module _ {d : PvDomain} {v : Verb} {l : ℕ} {own : NodeName} {s : Start} {c : P
   went_on x e = e ∙ ap (λ (k : Calls). (rowed a.0 k x, a.1)) (acting_is a.0.calls v (lock_name l) c (stands w) a.0.who.plan.mode)
 
 -- what each does
-module _ {d : PvDomain} {v : Verb} {l : ℕ} {own : NodeName} {s : Start} {ta tb : TableId} {ia ib : ℕ} {a b : Me Slot View}
+module _ {d : Domain} {v : Verb} {l : ℕ} {own : NodeName} {s : Start} {ta tb : TableId} {ia ib : ℕ} {a b : Me Slot View}
     (same : (tb ≡ ta) × (ib ≡ ia)) where
   pub e1_hashed : {met : ℕ} → AtOn d v l own s E1 (Owns own) ta ia a → SeesState a met b → met ≡ 2 → AtOn d v l own s E2 (Leads own true) tb ib b
   e1_hashed w k e = goes w same (Stated k.found) k.seat E2 (Leads own true) (E1_hashed w.frame k.found (sym k.word ∙ e) w.has)

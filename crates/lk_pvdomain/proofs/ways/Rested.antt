@@ -9,8 +9,9 @@ use Rattle.lk_domain.specs.Keeps.{Slot}
 use Rattle.lk_domain.specs.Ledgers.{Ledger}
 use Rattle.lk_domain.specs.Plans.{locks_of}
 use Rattle.lk_domain.specs.declared.domain.LockId.{LockId}
+use Rattle.lk_domain.specs.declared.domain.Domain.{Domain}
 use Rattle.lk_domain.specs.declared.view.View.{View}
-use Rattle.lk_pvdomain.specs.declared.cpu.PvCpu.{PvCpu}
+use Rattle.lk_domain.specs.declared.cpu.Cpu.{Cpu}
 use Rattle.lk_pvdomain.specs.declared.domain.PvDomain.{PvDomain}
 use Rattle.lk_pvdomain.specs.declared.rest.PvRest.{PvRest}
 use Rattle.lk_pvdomain.specs.declared.rest.PvRest.TheVariants as rest
@@ -18,7 +19,7 @@ use Rattle.lk_pvdomain.specs.declared.waiter.PvWaiter.{PvWaiter}
 use Rattle.lk_pvdomain.specs.PvCalls.{own_node}
 use Rattle.lk_pvdomain.specs.PvPaths.{Start, AtOn, HaltedOn, first_of}
 use Rattle.lk_pvdomain.specs.PvRests.{Rests, Comes, is_asleep, is_asleep_at}
-use Rattle.lk_pvdomain.specs.PvSeats.{IsSame}
+use Rattle.lk_domain.specs.Seats.{IsSame}
 use Rattle.lk_pvdomain.specs.PvTurns.{Waits, waiter_at}
 use Rattle.lk_pvdomain.proofs.ways.Frees.{out_taken}
 use Rattle.lk_pvdomain.proofs.ways.Kept.{IsKept}
@@ -32,7 +33,7 @@ pub record IsSince (s : Start) (a : Seat Slot View) : Type 0 where
   pub slots : a.me.1 ≡ s.slots
   pub out : a.me.0.ledger.out ≡ s.ledger.out
 
-module _ {d : PvDomain} {l : ℕ} {own : NodeName} {s : Start} {a : Seat Slot View} where
+module _ {d : Domain} {l : ℕ} {own : NodeName} {s : Start} {a : Seat Slot View} where
   at_row : {c : Pc} {P : Frame → Type 0} → AtOn d Lock l own s c P a.table_id a.id a.me → IsSince s a
   at_row w = record { table = w.table_was; id = w.id_was; who = w.who; slots = w.slots; out = ap (λ (g : Ledger). g.out) w.ledger }
 
@@ -41,7 +42,7 @@ module _ {d : PvDomain} {l : ℕ} {own : NodeName} {s : Start} {a : Seat Slot Vi
       let w = h.wakes in
       record { table = w.table_was; id = w.id_was; who = w.who; slots = w.slots; out = ap (λ (g : Ledger). g.out) w.ledger }
 
-module _ (d : PvDomain) (l : ℕ) (own : NodeName) (s : Start) (a : Seat Slot View) where
+module _ (d : Domain) (l : ℕ) (own : NodeName) (s : Start) (a : Seat Slot View) where
   pub since_rests : (r : PvRest) → Rests d l own r s a → IsSince s a
   since_rests rest.Looks w = at_row w
   since_rests (rest.Steals x) w = at_row w
@@ -92,13 +93,13 @@ module _ {s : Start} {a b : Seat Slot View} (old : IsSince s a) (new : IsSince s
   pub kept_since : IsKept a.me b.me
   kept_since = record { who = new.who ∙ sym old.who; slots = new.slots ∙ sym old.slots; out = new.out ∙ sym old.out }
 
-pub same_since : {s : Start} (x y : PvCpu) → IsSince s x.seat → IsSince s y.seat → y.number ≡ x.number → IsSame x y
+pub same_since : {s : Start} (x y : Cpu) → IsSince s x.seat → IsSince s y.seat → y.number ≡ x.number → IsSame x y
 same_since x y old new number =
     record { table = new.table ∙ sym old.table; id = new.id ∙ sym old.id; number = number; who = new.who ∙ sym old.who }
 
 -- the call with which a turn leaves waits there
-pub waits_of : (d : PvDomain) (lock : LockId) (cpu : PvCpu) (o : Option PvRest) (s : Start) (w : PvWaiter) → lock.index < locks_of d.plan
-    → waiter_at lock o ≡ Some w → Comes d lock.index (own_node cpu) o s cpu.seat → Waits d w s cpu
+pub waits_of : (d : PvDomain) (lock : LockId) (cpu : Cpu) (o : Option PvRest) (s : Start) (w : PvWaiter) → lock.index < locks_of d.domain.plan
+    → waiter_at lock o ≡ Some w → Comes d.domain lock.index (own_node cpu) o s cpu.seat → Waits d w s cpu
 waits_of d lock cpu None s w low e h = absurd (cc e)
 waits_of d lock cpu (Some r) s w low e h =
     let same : record { lock = lock; rest = r } ≡ w = cc e in

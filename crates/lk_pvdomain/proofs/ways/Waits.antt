@@ -20,9 +20,9 @@ use Rattle.lk_domain.specs.NodePlays.{InCall, SeesFlag}
 use Rattle.lk_domain.specs.NodeUses.{LooksFlag, looks_flag}
 use Rattle.lk_domain.specs.Plays.{went}
 use Rattle.lk_domain.specs.Plans.{turns_of, turns_by}
+use Rattle.lk_domain.specs.declared.domain.Domain.{Domain}
 use Rattle.lk_domain.specs.declared.view.View.{View}
 use Rattle.lk_domain.specs.Words.{flag_number, state_number}
-use Rattle.lk_pvdomain.specs.declared.domain.PvDomain.{PvDomain}
 use Rattle.lk_pvdomain.specs.PvPaths.{Start, AtOn, HaltedOn, Owns, Follows, Spares}
 use Rattle.lk_pvdomain.specs.PvPlays.{AtState, AtTold, AtHalt, SeesState}
 use Rattle.lk_pvdomain.specs.PvRows.{looks_state, stores_own, state_told, rouses, roused_to, state_node, halts_at}
@@ -99,10 +99,10 @@ module _ {t : Terms} {p : ℕ} {z : Outlook} {own prev : NodeName} (f : Frame) w
   W7_wakes Hashed h = record { place = refl; grip = refl; lock = refl; wakes = refl; has = record { me = h.me; prev = h.prev; left = refl } }
 
 -- what each asks
-module _ {d : PvDomain} {v : Verb} {l : ℕ} {own : NodeName} {s : Start} {c : Pc} {P : Frame → Type 0} {ta : TableId} {ia : ℕ}
+module _ {d : Domain} {v : Verb} {l : ℕ} {own : NodeName} {s : Start} {c : Pc} {P : Frame → Type 0} {ta : TableId} {ia : ℕ}
     {a : Me Slot View} (w : AtOn d v l own s c P ta ia a) where
   pub flag_asks : looks_flag c ≡ true → w.frame.me ≡ Some own → InCall (LooksFlag d.plan own) a.0
-  flag_asks is me = (v, inr (d.halting, record { lock = lock_name l; row = c; is = is; stands = stands w; me = me }))
+  flag_asks is me = (v, inr (w.of.halting, record { lock = lock_name l; row = c; is = is; stands = stands w; me = me }))
 
   pub look_asks : (node : NodeName) → looks_state c ≡ true → state_node c w.frame ≡ node → AtState looks_state node a.0
   look_asks node is on = record { verb = v; lock = lock_name l; row = c; is = is; stands = stands w; node_is = on }
@@ -121,12 +121,12 @@ module _ {d : PvDomain} {v : Verb} {l : ℕ} {own : NodeName} {s : Start} {c : P
   halt_asks is = record { verb = v; lock = lock_name l; row = c; is = is; stands = stands w }
 
 -- what each does
-module _ {d : PvDomain} {v : Verb} {l : ℕ} {own : NodeName} {s : Start} {ta tb : TableId} {ia ib : ℕ} {a b : Me Slot View}
+module _ {d : Domain} {v : Verb} {l : ℕ} {own : NodeName} {s : Start} {ta tb : TableId} {ia ib : ℕ} {a b : Me Slot View}
     (same : (tb ≡ ta) × (ib ≡ ia)) where
   pub w1_set : {prev : NodeName} {n met : ℕ} → AtOn d v l own s W1 (Spares own prev n) ta ia a → SeesFlag a met b → met ≢ 0 → AtOn d v l own s E1 (Owns own) tb ib b
   w1_set w k ne = goes w same (Flagged k.found) k.seat E1 (Owns own) (W1_set w.frame k.found (λ e. ne (k.word ∙ e)) w.has.me)
 
-module _ {d : PvDomain} {v : Verb} {l : ℕ} {own prev : NodeName} {s : Start} {ta tb : TableId} {ia ib : ℕ} {a b : Me Slot View}
+module _ {d : Domain} {v : Verb} {l : ℕ} {own prev : NodeName} {s : Start} {ta tb : TableId} {ia ib : ℕ} {a b : Me Slot View}
     (same : (tb ≡ ta) × (ib ≡ ia)) where
   pub w1_unset : {n met : ℕ} → AtOn d v l own s W1 (Spares own prev n) ta ia a → SeesFlag a met b → met ≡ 0
       → AtOn d v l own s W2 (Spares own prev n) tb ib b

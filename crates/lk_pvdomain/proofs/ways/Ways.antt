@@ -19,9 +19,9 @@ use Rattle.lk_domain.specs.Paths.{next_frame, row_grip}
 use Rattle.lk_domain.specs.Plays.{went, turned_of, turned_on, turned_at}
 use Rattle.lk_domain.specs.Views.{own_number, IsNumbered}
 use Rattle.lk_domain.specs.Who.{Who}
+use Rattle.lk_domain.specs.declared.domain.Domain.{Domain}
 use Rattle.lk_domain.specs.declared.view.View.{View}
 use Rattle.lk_domain.proofs.rows.Went.{led_ctx}
-use Rattle.lk_pvdomain.specs.declared.domain.PvDomain.{PvDomain}
 use Rattle.lk_pvdomain.specs.PvPaths.{onward, awoken, Start, IsSeat, AtOn, HaltedOn, TookOn, EndedOn, freed}
 use Rattle.lk_pvdomain.specs.PvPlays.{woken, stirred}
 
@@ -47,8 +47,21 @@ pub record Drops (t : Terms) (p : ℕ) (z : Outlook) (c : Pc) (f : Frame) (x : M
   pub own : held_lock (target c f) f ≡ f.lock
   pub wakes : halted_after (target c f) false ≡ false
 
+-- the seat stays that of its processor
+pub moved_seat : {d : Domain} {own : NodeName} {ta tb : TableId} {a b : Me Slot View} → IsSeat d own ta a → tb ≡ ta → b.0.who ≡ a.0.who
+    → IsSeat d own tb b
+moved_seat o same who =
+    record {
+      table_is = same ∙ o.table_is;
+      plan = ap (λ (q : Who). q.plan) who ∙ o.plan;
+      halting = o.halting;
+      number = ap (λ (q : Who). q.number) who ∙ o.number;
+      near = o.near;
+      index = o.index;
+    }
+
 -- the call makes its row, which meets x
-module _ {d : PvDomain} {v : Verb} {l : ℕ} {own : NodeName} {s : Start} {c : Pc} {P : Frame → Type 0} {ta tb : TableId} {ia ib : ℕ}
+module _ {d : Domain} {v : Verb} {l : ℕ} {own : NodeName} {s : Start} {c : Pc} {P : Frame → Type 0} {ta tb : TableId} {ia ib : ℕ}
     {a b : Me Slot View} (w : AtOn d v l own s c P ta ia a) (same : (tb ≡ ta) × (ib ≡ ia)) (x : Met)
     (step : b ≡ (went a.0 x, a.1)) where
   abbrev t : Terms
@@ -90,13 +103,7 @@ module _ {d : PvDomain} {v : Verb} {l : ℕ} {own : NodeName} {s : Start} {c : P
   who_is = ap (λ (m : Me Slot View). m.0.who) step
 
   seat : IsSeat d own tb b
-  seat = record {
-    table_is = same.0 ∙ w.of.table_is;
-    plan = ap (λ (q : Who). q.plan) who_is ∙ w.of.plan;
-    number = ap (λ (q : Who). q.number) who_is ∙ w.of.number;
-    near = w.of.near;
-    index = w.of.index;
-  }
+  seat = moved_seat w.of same.0 who_is
 
   -- it goes on
   pub goes : (e : Pc) (Q : Frame → Type 0) → Goes t own.cpu z c f x e Q → AtOn d v l own s e Q tb ib b
@@ -242,7 +249,7 @@ module _ {d : PvDomain} {v : Verb} {l : ℕ} {own : NodeName} {s : Start} {c : P
   yields_trail e Q place is at lock wakes has = refl
 
 -- a call that stands at a row
-module _ {d : PvDomain} {v : Verb} {l : ℕ} {own : NodeName} {s : Start} {c : Pc} {P : Frame → Type 0} {ta : TableId} {ia : ℕ}
+module _ {d : Domain} {v : Verb} {l : ℕ} {own : NodeName} {s : Start} {c : Pc} {P : Frame → Type 0} {ta : TableId} {ia : ℕ}
     {a : Me Slot View} (w : AtOn d v l own s c P ta ia a) where
   abbrev pub stands : StandsOn a.0.calls v (lock_name l) c
   stands = record { frame = w.frame; trail = w.trail; rest = []; is = w.frames; place = w.place; lock = w.lock }
@@ -252,7 +259,7 @@ module _ {d : PvDomain} {v : Verb} {l : ℕ} {own : NodeName} {s : Start} {c : P
   numbered = (own.cpu, w.of.number)
 
 -- the processor halts, and a kick ends the halt
-module _ {d : PvDomain} {v : Verb} {l : ℕ} {own : NodeName} {s : Start} {c : Pc} {P : Frame → Type 0} {ta tb : TableId} {ia ib : ℕ}
+module _ {d : Domain} {v : Verb} {l : ℕ} {own : NodeName} {s : Start} {c : Pc} {P : Frame → Type 0} {ta tb : TableId} {ia ib : ℕ}
     {a b : Me Slot View} (w : AtOn d v l own s c P ta ia a) (same : (tb ≡ ta) × (ib ≡ ia)) (step : b ≡ (went a.0 (Marked false), a.1))
     (halts : target c w.frame ≡ Halted)
     (still : next_frame (terms_of d.plan).mode own.cpu (sight_of (terms_of d.plan) own.cpu a.0.calls.runs) c w.frame (Marked false) ≡ record w.frame { place = Some c })
@@ -283,13 +290,7 @@ module _ {d : PvDomain} {v : Verb} {l : ℕ} {own : NodeName} {s : Start} {c : P
         let is = calls w same (Marked false) step in
         let who : m.0.who ≡ a.0.who = ap (λ (n : Me Slot View). n.0.who) wakes ∙ ap (λ (n : Me Slot View). n.0.who) step in
         record {
-          of = record {
-            table_is = same'.0 ∙ (same.0 ∙ w.of.table_is);
-            plan = ap (λ (q : Who). q.plan) who ∙ w.of.plan;
-            number = ap (λ (q : Who). q.number) who ∙ w.of.number;
-            near = w.of.near;
-            index = w.of.index;
-          };
+          of = moved_seat w.of (same'.0 ∙ same.0) who;
           low = w.low;
           table_was = same'.0 ∙ (same.0 ∙ w.table_was);
           id_was = same'.1 ∙ (same.1 ∙ w.id_was);

@@ -1,7 +1,8 @@
 use Rattle.std.proofs.Common.{ap, ◌∙◌, refl, ℕ, sym, subst}
 use Rattle.lk_domain.specs.declared.view.View.{View}
 use Rattle.lk_domain.proofs.seats.Homes.{own_lock}
-use Rattle.lk_pvdomain.proofs.PvSeating.{seat_of, table_of}
+use Rattle.lk_domain.proofs.Seating.{table_of}
+use Rattle.lk_pvdomain.proofs.PvSeating.{seat_of}
 use Rattle.lk_lock.proofs.HaltingSteps.{pv_is_of, own_bringing}
 use Rattle.lk_domain.specs.Values.{IsNewestAt}
 use Rattle.lk_lock.proofs.halting.bring.Goals as goal
@@ -11,11 +12,11 @@ bring-requires c =
     let d = c.args.domain.now in
     let old = c.args.cpu.now in
     record {
-      table = table_of d;
+      table = table_of d.domain;
       seat = seat_of old d (pv_is_of d old c.requires.ready);
       valued = c.requires.valued;
-      newest = subst (λ (x : ℕ). IsNewestAt d.plan x c.args.id.index old.seat.me.0.who.outs)
-          (sym (own_lock d.plan c.args.id.index c.requires.lock)) c.requires.newest;
+      newest = subst (λ (x : ℕ). IsNewestAt d.domain.plan x c.args.id.index old.seat.me.0.who.outs)
+          (sym (own_lock d.domain.plan c.args.id.index c.requires.lock)) c.requires.newest;
       journal = c.requires.ready.home;
       key = c.requires.key;
     }

@@ -16,7 +16,7 @@ returns g c =
     let path = pv_has_locked d old was l Lock mid (λ hs. refl) c.pv_lock.ensures.taken in
     record {
       ready = pv_locked d old was l Lock mid c.pv_lock.ensures.same c.pv_lock.ensures.taken;
-      holding = locked_last (terms_of d.plan) old.number Lock l (cpu.Halting old) (cpu.Halting mid)
+      holding = locked_last (terms_of d.domain.plan) old.number Lock l (cpu.Halting old) (cpu.Halting mid)
           (pv_same old mid c.pv_lock.ensures.same) path c.requires.free;
       path = path;
     }

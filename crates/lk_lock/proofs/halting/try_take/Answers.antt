@@ -17,7 +17,7 @@ returns-clause-taken c on =
     let path = pv_has_locked d old was l Try mid (λ hs. refl) taken in
     record {
       ready = pv_locked d old was l Try mid c.pv_try_lock.ensures.same taken;
-      holding = locked_last (terms_of d.plan) old.number Try l (cpu.Halting old) (cpu.Halting mid)
+      holding = locked_last (terms_of d.domain.plan) old.number Try l (cpu.Halting old) (cpu.Halting mid)
           (pv_same old mid c.pv_try_lock.ensures.same) path c.requires.free;
       path = path;
     }

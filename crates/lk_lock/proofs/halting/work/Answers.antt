@@ -1,7 +1,8 @@
 use Rattle.std.proofs.Common.{ap, ◌∙◌, refl}
 use Rattle.lk_domain.specs.declared.view.View.{View}
 use Rattle.lk_domain.proofs.seats.Homes.{alone_at}
-use Rattle.lk_pvdomain.proofs.PvSeating.{seat_of, table_of}
+use Rattle.lk_domain.proofs.Seating.{table_of}
+use Rattle.lk_pvdomain.proofs.PvSeating.{seat_of}
 use Rattle.lk_lock.proofs.HaltingSteps.{pv_is_of}
 use Rattle.lk_lock.proofs.halting.work.Goals as goal
 
@@ -10,10 +11,10 @@ work_at-requires g c =
     let d = c.args.domain.now in
     let old = c.args.cpu.now in
     record {
-      table = table_of d;
+      table = table_of d.domain;
       seat = seat_of old d (pv_is_of d old c.requires.ready);
       valued = c.requires.valued;
-      held = alone_at d.plan c.args.id.index old.seat.me.0 c.requires.lock c.requires.held;
+      held = alone_at d.domain.plan c.args.id.index old.seat.me.0 c.requires.lock c.requires.held;
       journal = c.requires.ready.home;
       work = c.requires.work;
     }

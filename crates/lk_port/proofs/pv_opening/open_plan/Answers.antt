@@ -29,4 +29,4 @@ loop-alloc-preserved c =
 pub returns-clause-each : goal.returns-clause-each
 returns-clause-each c =
     let is : arc_value c.in-Ok-new.domain ≡ c.in-Ok.domain = c.in-Ok-new.ensures.ok in
-    (arc_value c.in-Ok-new.domain, subst (λ (d : PvDomain). IsPlanOf c.args.plan.now d.plan) (sym is) c.in-Ok.ensures.plan, c.loop-alloc.invariant.each)
+    (arc_value c.in-Ok-new.domain, subst (λ (d : PvDomain). IsPlanOf c.args.plan.now d.domain.plan) (sym is) c.in-Ok.ensures.plan, c.loop-alloc.invariant.each)

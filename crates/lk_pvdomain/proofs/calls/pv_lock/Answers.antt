@@ -1,62 +1,37 @@
-use Rattle.std.proofs.Common.{refl}
+use Rattle.std.proofs.Common.{ℕ, refl, subst}
 use Rattle.lk_rows.specs.declared.setup.Verb.TheVariants.{Lock}
 use Rattle.lk_pvdomain.specs.PvCalls.{own_node}
-use Rattle.lk_pvdomain.specs.PvPaths.{first_of}
-use Rattle.lk_pvdomain.proofs.ways.Kept.{rests_of, kept_cpu, kept_first, kept_taken}
+use Rattle.lk_pvdomain.specs.PvPaths.{Took, first_node, first_of}
+use Rattle.lk_pvdomain.proofs.ways.Frees.{is_taken}
+use Rattle.lk_pvdomain.proofs.ways.Kept.{rests_as, let_cpu, let_same, let_rests}
 use Rattle.lk_pvdomain.proofs.calls.pv_lock.Goals as goal
 
-pub fast-requires : goal.fast-requires
-fast-requires g c =
+pub lock-requires : goal.lock-requires
+lock-requires g c =
     record {
-      rests = (own_node c.args.cpu.now, rests_of c.args.domain.now c.args.cpu.now c.requires.domain c.requires.rests);
+      rests = rests_as c.args.domain.now c.args.cpu.now c.requires.domain c.requires.rests c.number-number.result c.number-number.ensures;
       lock = c.requires.lock;
       free = c.requires.free;
     }
 
-pub contend-requires : goal.contend-requires
-contend-requires g c =
-    record {
-      at = (
-        first_of Lock c.args.lock.index c.args.cpu.now.seat,
-        c.fast.ensures.goes c.if-fast.false (own_node c.args.cpu.now)
-            (rests_of c.args.domain.now c.args.cpu.now c.requires.domain c.requires.rests),
-      );
-    }
-
 pub invariant_of-cpu : goal.invariant_of-cpu
 invariant_of-cpu g c =
-    let own = own_node c.args.cpu.now in
-    let r = rests_of c.args.domain.now c.args.cpu.now c.requires.domain c.requires.rests in
-    let k = kept_cpu c.args.cpu.now c.fast.new.seat (kept_first c.args.domain.now c.args.lock.index own c.args.cpu.now.seat c.fast.new.seat c.fast.result
-    (λ e. c.fast.ensures.took e own r) (λ e. c.fast.ensures.goes e own r)) in
-    record { numbered = k.0; carried = k.1 }
+    let d = c.args.domain.now in
+    let cpu = c.args.cpu.now in
+    let k = let_cpu d cpu c.requires.domain _ (is_taken d.domain Lock c.args.lock.index (first_node c.number-number.result) cpu.seat _ c.lock.ensures.took) in
+    record {
+      numbered = k.numbered;
+      noted = λ e. absurd (k.awake e);
+      apart = λ e. absurd (k.awake e);
+      carried = k.carried;
+    }
 
-pub returns-then-fast-clause-same : goal.returns-then-fast-clause-same
-returns-then-fast-clause-same g c =
-    let t = c.fast.ensures.took c.if-fast.true (own_node c.args.cpu.now) (rests_of c.args.domain.now c.args.cpu.now c.requires.domain c.requires.rests) in
-    record { table = t.over.table_was; id = t.over.id_was; number = refl; who = t.over.who }
-
-pub invariant_of-cpu-2 : goal.invariant_of-cpu-2
-invariant_of-cpu-2 g c =
-    let own = own_node c.args.cpu.now in
-    let r = rests_of c.args.domain.now c.args.cpu.now c.requires.domain c.requires.rests in
-    let k = kept_cpu c.args.cpu.now c.contend.new.seat (kept_taken c.args.domain.now c.args.lock.index own c.args.cpu.now.seat c.contend.new.seat
-    (c.contend.ensures.took (first_of Lock c.args.lock.index c.args.cpu.now.seat) (c.fast.ensures.goes c.if-fast.false own r))) in
-    record { numbered = k.0; carried = k.1 }
-
-pub returns-clause-same : goal.returns-clause-same
-returns-clause-same g c =
-    let t = c.contend.ensures.took (first_of Lock c.args.lock.index c.args.cpu.now.seat) (c.fast.ensures.goes c.if-fast.false (own_node c.args.cpu.now)
-    (rests_of c.args.domain.now c.args.cpu.now c.requires.domain c.requires.rests)) in
-    record { table = t.over.table_was; id = t.over.id_was; number = refl; who = t.over.who }
-
-pub returns-then-fast-clause-taken : goal.returns-then-fast-clause-taken
-returns-then-fast-clause-taken g c =
-    let t = c.fast.ensures.took c.if-fast.true (own_node c.args.cpu.now) (rests_of c.args.domain.now c.args.cpu.now c.requires.domain c.requires.rests) in
-    record { took = t; rests = record { frames = t.over.frames; awake = t.over.awake; fresh = t.over.fresh } }
-
-pub returns-clause-taken : goal.returns-clause-taken
-returns-clause-taken g c =
-    let t = c.contend.ensures.took (first_of Lock c.args.lock.index c.args.cpu.now.seat) (c.fast.ensures.goes c.if-fast.false (own_node c.args.cpu.now)
-    (rests_of c.args.domain.now c.args.cpu.now c.requires.domain c.requires.rests)) in
-    record { took = t; rests = record { frames = t.over.frames; awake = t.over.awake; fresh = t.over.fresh } }
+pub returns : goal.returns
+returns g c =
+    let d = c.args.domain.now in
+    let l = c.args.lock.index in
+    let cpu = c.args.cpu.now in
+    let took : Took d.domain Lock l (own_node cpu) (first_of Lock l cpu.seat) c.lock.new.seat =
+    subst (λ (n : ℕ). Took d.domain Lock l (first_node n) (first_of Lock l cpu.seat) c.lock.new.seat) c.number-number.ensures c.lock.ensures.took in
+    let t = is_taken d.domain Lock l (own_node cpu) cpu.seat _ took in
+    record { same = let_same cpu _ t refl; taken = record { took = took; rests = let_rests t } }

@@ -1,46 +1,41 @@
-use Rattle.std.proofs.Common.{refl, ap, ◌∙◌, arith}
-use Rattle.lk_domain.proofs.seats.Places.{carried_same}
-use Rattle.lk_domain.specs.Who.{Who}
-use Rattle.lk_pvdomain.specs.PvCalls.{own_node}
+use Rattle.std.proofs.Common.{ℕ, refl, subst}
+use Rattle.lk_rows.specs.declared.setup.Verb.TheVariants.{Try}
+use Rattle.lk_domain.specs.Calls.{Unchanged}
+use Rattle.lk_pvdomain.specs.PvPaths.{Ended, Took, first_node, first_of}
 use Rattle.lk_pvdomain.proofs.ways.Frees.{is_tried}
+use Rattle.lk_pvdomain.proofs.ways.Kept.{rests_as, let_cpu, let_same, let_rests}
 use Rattle.lk_pvdomain.proofs.calls.pv_try_lock.Goals as goal
 
-pub attempt-requires : goal.attempt-requires
-attempt-requires c =
-    let o = c.requires.domain in
-    let r = c.requires.rests in
-    let low = o.low in
+pub try_lock-requires : goal.try_lock-requires
+try_lock-requires c =
     record {
-      rests = record {
-        of = record { table_is = o.table; plan = o.plan; number = c.args.cpu.now.numbered; near = record { cpu = low; index = omega arith }; index = refl };
-        frames = r.frames;
-        awake = r.awake;
-        fresh = r.fresh;
-      };
+      rests = rests_as c.args.domain.now c.args.cpu.now c.requires.domain c.requires.rests c.number-number.result c.number-number.ensures;
       lock = c.requires.lock;
       free = c.requires.free;
     }
 
 pub invariant_of-cpu : goal.invariant_of-cpu
 invariant_of-cpu c =
-    let t = is_tried c.args.domain.now c.args.lock.index (own_node c.args.cpu.now) c.args.cpu.now.seat _ c.attempt.result c.attempt.ensures.took c.attempt.ensures.missed in
+    let d = c.args.domain.now in
     let cpu = c.args.cpu.now in
+    let k = let_cpu d cpu c.requires.domain _ (is_tried d.domain c.args.lock.index (first_node c.number-number.result) cpu.seat _ c.try_lock.result c.try_lock.ensures.took c.try_lock.ensures.missed) in
     record {
-      numbered = ap (λ (w : Who). w.number) t.who ∙ cpu.numbered;
-      carried = t.slots ∙ (cpu.carried ∙ carried_same cpu.seat.me.0 c.attempt.new.seat.me.0 t.who t.out);
+      numbered = k.numbered;
+      noted = λ e. absurd (k.awake e);
+      apart = λ e. absurd (k.awake e);
+      carried = k.carried;
     }
 
-pub returns-clause-same : goal.returns-clause-same
-returns-clause-same c =
-    let t = is_tried c.args.domain.now c.args.lock.index (own_node c.args.cpu.now) c.args.cpu.now.seat _ c.attempt.result c.attempt.ensures.took c.attempt.ensures.missed in
-    record { table = t.table_was; id = t.id_was; number = refl; who = t.who }
-
-pub returns-clause-taken : goal.returns-clause-taken
-returns-clause-taken c e =
-    let t = c.attempt.ensures.took e in
-    record { took = t; rests = record { frames = t.over.frames; awake = t.over.awake; fresh = t.over.fresh } }
-
-pub returns-clause-missed : goal.returns-clause-missed
-returns-clause-missed c e =
-    let t = c.attempt.ensures.missed e in
-    record { missed = t; rests = record { frames = t.over.frames; awake = t.over.awake; fresh = t.over.fresh } }
+pub returns : goal.returns
+returns c =
+    let d = c.args.domain.now.domain in
+    let l = c.args.lock.index in
+    let cpu = c.args.cpu.now in
+    let new = c.try_lock.new.seat in
+    let s = first_of Try l cpu.seat in
+    let t = is_tried d l (first_node c.number-number.result) cpu.seat new c.try_lock.result c.try_lock.ensures.took c.try_lock.ensures.missed in
+    record {
+      same = let_same cpu _ t refl;
+      taken = λ e. record { took = subst (λ (n : ℕ). Took d Try l (first_node n) s new) c.number-number.ensures (c.try_lock.ensures.took e); rests = let_rests t };
+      missed = λ e. record { missed = subst (λ (n : ℕ). Ended d Try l (first_node n) s Unchanged new) c.number-number.ensures (c.try_lock.ensures.missed e); rests = let_rests t };
+    }

@@ -1,27 +1,17 @@
-use Rattle.std.proofs.Common.{sym, arith}
-use Rattle.lk_domain.proofs.journals.Heirs.{has_all, final}
-use Rattle.lk_pvdomain.specs.PvSeats.{view_of}
-use Rattle.lk_pvdomain.proofs.PvSeating.{table_of}
+use Rattle.std.proofs.Common.{◌≡◌, ◌∙◌, Err, sym, ap}
+use Rattle.std.specs.declared.result.Result.{Result}
+use Rattle.lk_domain.specs.declared.ending.Closed.{Closed}
+use Rattle.lk_pvdomain.specs.declared.ending.PvBack.{PvBack}
+use Rattle.lk_pvdomain.proofs.PvSeating.{one_domain}
 use Rattle.lk_pvdomain.proofs.ending.pv_close.Goals as goal
 
-pub end-journal-requires-clause-table : goal.end-journal-requires-clause-table
-end-journal-requires-clause-table c = table_of c.args.domain
+same_back : {x y : PvBack} → ◌≡◌ {A = Result Closed PvBack} (Err x) (Err y) → x ≡ y
+same_back e = cc e
 
-pub end-journal-requires-clause-seat : goal.end-journal-requires-clause-seat
-end-journal-requires-clause-seat c = c.join_all-last.ensures.seat
-
-pub end-journal-requires-clause-all : goal.end-journal-requires-clause-all
-end-journal-requires-clause-all c p lt =
-    has_all view_of c.args.cpus.items c.join_all-last.result.me.0 p c.join_all-last.ensures.all
-    (let a = c.requires.all in omega arith)
-
-pub end-journal-requires-clause-home : goal.end-journal-requires-clause-home
-end-journal-requires-clause-home c = c.join_all-last.ensures.home
-
-pub end-journal-requires-clause-holds : goal.end-journal-requires-clause-holds
-end-journal-requires-clause-holds c = c.join_all-last.ensures.holds
-
-pub returns-clause-ends : goal.returns-clause-ends
-returns-clause-ends c =
-    final view_of c.args.domain.plan c.args.cpus.items c.join_all-last.result.me.0 c.end-journal.result.items c.join_all-last.ensures.all
-    (sym c.requires.all) c.end-journal.ensures.end
+pub returns-in-Err-clause-back : goal.returns-in-Err-clause-back
+returns-in-Err-clause-back c b e =
+    let back = c.close.ensures.back c.in-Err.field-0 c.in-Err.is in
+    let is = sym (same_back e) in (
+      ap (λ (x : PvBack). x.domain) is ∙ one_domain _ c.args.domain back.0,
+      ap (λ (x : PvBack). x.cpus) is ∙ back.1,
+    )

@@ -7,7 +7,6 @@ use Rattle.lk_domain.specs.Plans.{cpus_of}
 use Rattle.lk_domain.specs.Words.{IsNode}
 use Rattle.lk_domain.specs.declared.plan.Plan.{Plan}
 use Rattle.lk_domain.specs.declared.locks.moves.WordUse.TheVariants.{Drops}
-use Rattle.lk_pvdomain.proofs.ways.Ways.{numbered}
 use Rattle.lk_pvdomain.proofs.ways.Leads.{word_asks, seek_asks}
 use Rattle.lk_pvdomain.proofs.ways.Frees.{u3_finds, u4_frees, u5_kicks, kick_asks, out_freed, pair_cpu, freed_once, kicked}
 use Rattle.lk_pvdomain.proofs.freeing.kick_next.Goals as goal
@@ -15,15 +14,14 @@ use Rattle.lk_pvdomain.proofs.freeing.kick_next.Goals as goal
 pub take_out-pair-requires : goal.take_out-pair-requires
 take_out-pair-requires c =
     let w = c.requires.at.2 in
-    record { table = w.of.table_is; number = numbered w; lock = w.low; plan = w.of.plan; row = seek_asks w refl; fresh = w.fresh }
+    record { on = (_, w.of); lock = w.low; row = seek_asks w refl; fresh = w.fresh }
 
 pub go_on-requires : goal.go_on-requires
 go_on-requires c =
     let v = c.requires.at.2 in
     let w = u3_finds c.take_out-pair.ensures.same v c.take_out-pair.ensures.step in
     record {
-      table = w.of.table_is;
-      number = numbered w;
+      on = (_, w.of);
       lock = w.low;
       row = word_asks w Drops refl;
       home = λ e. record {
@@ -43,8 +41,7 @@ kick-requires c =
     let near = subst (λ (p : Plan). IsNode p k.node) v.of.plan k.near in
     let cpu = pair_cpu c.args.lock k.node c.take_out-pair.result (omega (arith, few, low)) near.index k.word in
     record {
-      table = x.1.of.table_is;
-      number = numbered x.1;
+      on = (_, x.1.of);
       target = subst (λ n. n < cpus_of c.args.domain.now.plan) (sym cpu) near.cpu;
       row = kick_asks x.1 _ (sym cpu) (record {
         journal = λ e. ap (λ (y : Ledger). y.out) x.1.ledger ∙ (out_freed c.requires.at.1.ledger c.args.lock x.0

@@ -11,10 +11,10 @@ swap-met-requires c =
     let d = c.args.domain.now in
     let z = d.table.shared.table_id in
     let h = c.requires.row in (
-      c.requires.table,
-      (let few = d.lawful.locks in let low = c.requires.place in omega (arith, c.place_of-word.ensures, d.words ∙ far_words d.plan d.halting, few, low)),
-      erase_asks d.table.shared.key d.plan z.slots c.args.seat.now.id c.args.seat.now.me c.requires.number c.place_of-word.result
-          d.key d.halting c.args.lock c.requires.lock h c.requires.found.0 c.requires.found.1 c.args.place c.requires.next
+      c.requires.on.1.table_is,
+      (let few = d.lawful.locks in let low = c.requires.place in omega (arith, c.place_of-word.ensures, d.words ∙ far_words d.plan c.requires.on.1.halting, few, low)),
+      erase_asks d.table.shared.key d.plan z.slots c.args.seat.now.id c.args.seat.now.me (c.requires.on.0.cpu, c.requires.on.1.number) c.place_of-word.result
+          d.key c.requires.on.1.halting c.args.lock c.requires.lock h c.requires.found.0 c.requires.found.1 c.args.place c.requires.next
           c.place_of-word.ensures,
     )
 

@@ -7,8 +7,8 @@ pub load-met-requires : goal.load-met-requires
 load-met-requires c =
     let d = c.args.domain.now in
     let z = d.table.shared.table_id in (
-      c.requires.table,
-      (let few = d.lawful.cpus in let low = c.requires.cpu in omega (arith, c.kick_of-word.ensures, d.words ∙ far_words d.plan d.halting, low)),
-      halt_asks d.table.shared.key d.plan z.slots c.args.seat.now.id c.args.seat.now.me c.kick_of-word.result d.key d.halting
-          c.args.cpu c.kick_of-word.ensures c.requires.number c.requires.row c.requires.awake,
+      c.requires.of.table_is,
+      (let few = d.lawful.cpus in let low = c.requires.of.near.cpu in omega (arith, c.kick_of-word.ensures, d.words ∙ far_words d.plan c.requires.of.halting, low)),
+      halt_asks d.table.shared.key d.plan z.slots c.args.seat.now.id c.args.seat.now.me c.kick_of-word.result d.key c.requires.of.halting
+          c.args.own.cpu c.kick_of-word.ensures c.requires.of.number c.requires.row c.requires.awake,
     )

@@ -6,7 +6,7 @@ use Rattle.lk_domain.specs.Views.{IsNumbered}
 use Rattle.lk_domain.specs.Words.{part_index}
 use Rattle.lk_domain.specs.declared.part.Part.TheVariants as part_is
 use Rattle.lk_domain.specs.declared.view.View.{View}
-use Rattle.lk_pvdomain.proofs.PvSeating.{table_of}
+use Rattle.lk_domain.proofs.Seating.{table_of}
 use Rattle.lk_pvdomain.proofs.nodes.reset.Goals as goal
 
 pub returns-then-look_reset-eq0-clause-step : goal.returns-then-look_reset-eq0-clause-step
@@ -18,12 +18,12 @@ reset-requires c =
     let back = sym (c.look_reset.ensures.stays c.if-look_reset-eq0.false) in
     record {
       table = table_of c.args.domain.now;
-      seat = c.look_reset.ensures.same.0 ∙ r.table;
-      number = subst (λ (m : Me Slot View). IsNumbered m.0) back r.number;
-      own = r.own;
+      seat = c.look_reset.ensures.same.0 ∙ r.of.table_is;
+      number = subst (λ (m : Me Slot View). IsNumbered m.0) back (c.args.own.cpu, r.of.number);
+      own = r.of.near;
       row = subst (λ (m : Me Slot View). InCall (AtEntry c.args.own) m.0) back r.row;
       ready = subst (λ (m : Me Slot View). c.args.part ≢ part_is.Flag → m.0.calls.ready ≡ part_index c.args.part) back r.ready;
-      plan = subst (λ (m : Me Slot View). m.0.who.plan ≡ c.args.domain.now.plan) back r.plan;
+      plan = subst (λ (m : Me Slot View). m.0.who.plan ≡ c.args.domain.now.plan) back r.of.plan;
     }
 
 pub returns-clause-same : goal.returns-clause-same

@@ -1,14 +1,15 @@
 use Rattle.std.proofs.Common.{refl, ap, ◌∙◌}
 use Rattle.lk_domain.specs.Who.{Who}
-use Rattle.lk_pvdomain.proofs.PvSeating.{table_of, seat_of}
+use Rattle.lk_domain.proofs.Seating.{seat_in, table_of}
+use Rattle.lk_pvdomain.proofs.PvSeating.{not_awake}
 use Rattle.lk_pvdomain.proofs.pages.pv_load.Goals as goal
 
 pub load-requires : goal.load-requires
 load-requires c =
     let d = c.args.domain.now in
     record {
-      table = table_of d;
-      seat = seat_of c.args.cpu.now d c.requires.domain;
+      table = table_of d.domain;
+      seat = seat_in c.args.cpu.now d.domain c.requires.domain;
       account = c.requires.account;
       held = c.requires.held;
     }
@@ -16,7 +17,13 @@ load-requires c =
 pub invariant_of-cpu : goal.invariant_of-cpu
 invariant_of-cpu c =
     let kept = c.load.ensures.rest in
-    record { numbered = ap (λ (w : Who). w.number) kept.who ∙ c.args.cpu.now.numbered; carried = c.load.ensures.seat.carried }
+    let no = not_awake c.args.domain.now c.args.cpu.now c.requires.domain _ kept.who in
+    record {
+      numbered = ap (λ (w : Who). w.number) kept.who ∙ c.args.cpu.now.numbered;
+      noted = λ e. absurd (no e);
+      apart = λ e. absurd (no e);
+      carried = c.load.ensures.seat.carried;
+    }
 
 pub returns-clause-rest : goal.returns-clause-rest
 returns-clause-rest c =

@@ -1,73 +1,51 @@
-use Rattle.std.proofs.Common.{refl, sym, subst, ◌∙◌}
+use Rattle.std.proofs.Common.{ℕ, refl, sym, subst, ◌∙◌}
 use Rattle.lk_rows.specs.declared.setup.Verb.TheVariants.{Lock}
 use Rattle.lk_pvdomain.specs.PvCalls.{own_node}
-use Rattle.lk_pvdomain.specs.PvPaths.{first_of}
+use Rattle.lk_pvdomain.specs.PvPaths.{first_node, first_of}
 use Rattle.lk_pvdomain.specs.PvRests.{Comes}
-use Rattle.lk_pvdomain.proofs.ways.Kept.{rests_of, kept_cpu, kept_first}
+use Rattle.lk_pvdomain.proofs.ways.Kept.{rests_as, kept_cpu}
 use Rattle.lk_pvdomain.proofs.ways.Rested.{since_comes, since_first, asleep_comes, kept_since, same_since, waits_of, lock_of}
 use Rattle.lk_pvdomain.proofs.polled.pv_begin.Goals as goal
 
-pub fast-requires : goal.fast-requires
-fast-requires c =
+pub begin-place-requires : goal.begin-place-requires
+begin-place-requires c =
     record {
-      rests = (own_node c.args.cpu.now, rests_of c.args.domain.now c.args.cpu.now c.requires.domain c.requires.rests);
+      rests = rests_as c.args.domain.now c.args.cpu.now c.requires.domain c.requires.rests c.number-number.result c.number-number.ensures;
       lock = c.requires.lock;
       free = c.requires.free;
     }
 
 pub invariant_of-cpu : goal.invariant_of-cpu
 invariant_of-cpu c =
-    let own = own_node c.args.cpu.now in
-    let r = rests_of c.args.domain.now c.args.cpu.now c.requires.domain c.requires.rests in
-    let k = kept_cpu c.args.cpu.now c.fast.new.seat (kept_first c.args.domain.now c.args.lock.index own c.args.cpu.now.seat c.fast.new.seat c.fast.result
-    (λ e. c.fast.ensures.took e own r) (λ e. c.fast.ensures.goes e own r)) in
-    record { numbered = k.0; carried = k.1 }
-
-pub returns-then-fast : goal.returns-then-fast
-returns-then-fast c =
-    let t = c.fast.ensures.took c.if-fast.true (own_node c.args.cpu.now) (rests_of c.args.domain.now c.args.cpu.now c.requires.domain c.requires.rests) in
-    record {
-      same = record { table = t.over.table_was; id = t.over.id_was; number = refl; who = t.over.who };
-      taken = λ e. record { took = t; rests = record { frames = t.over.frames; awake = t.over.awake; fresh = t.over.fresh } };
-      halted = t.over.awake;
-      lock = λ w e. absurd (cc e);
-      waits = λ w e. absurd (cc e);
-    }
-
-pub begin_slowpath-place-requires : goal.begin_slowpath-place-requires
-begin_slowpath-place-requires c =
-    record {
-      at = (
-        first_of Lock c.args.lock.index c.args.cpu.now.seat,
-        c.fast.ensures.goes c.if-fast.false (own_node c.args.cpu.now)
-            (rests_of c.args.domain.now c.args.cpu.now c.requires.domain c.requires.rests),
-      );
-    }
-
-pub invariant_of-cpu-2 : goal.invariant_of-cpu-2
-invariant_of-cpu-2 c =
     let d = c.args.domain.now in
     let cpu = c.args.cpu.now in
     let l = c.args.lock.index in
-    let s = first_of Lock l cpu.seat in
-    let came = c.begin_slowpath-place.ensures.comes s (c.fast.ensures.goes c.if-fast.false (own_node cpu) (rests_of d cpu c.requires.domain c.requires.rests)) in
-    let k = kept_cpu cpu c.begin_slowpath-place.new.seat (kept_since (since_first l cpu.seat) (since_comes d l (own_node cpu) s c.begin_slowpath-place.new.seat c.begin_slowpath-place.result came)) in
-    record { numbered = k.0; carried = k.1 }
+    let seat = c.begin-place.new.seat in
+    let k = kept_cpu d cpu c.requires.domain seat (kept_since (since_first l cpu.seat)
+    (since_comes d.domain l (first_node c.number-number.result) (first_of Lock l cpu.seat) seat c.begin-place.result c.begin-place.ensures.comes)) in
+    record {
+      numbered = k.numbered;
+      noted = λ e. absurd (k.awake e);
+      apart = λ e. absurd (k.awake e);
+      carried = k.carried;
+    }
 
 pub returns : goal.returns
 returns c =
-    let d = c.args.domain.now in
+    let d = c.args.domain.now.domain in
     let cpu = c.args.cpu.now in
     let l = c.args.lock.index in
     let s = first_of Lock l cpu.seat in
-    let place = c.begin_slowpath-place.result in
-    let came = c.begin_slowpath-place.ensures.comes s (c.fast.ensures.goes c.if-fast.false (own_node cpu) (rests_of d cpu c.requires.domain c.requires.rests)) in
+    let place = c.begin-place.result in
+    let seat = c.begin-place.new.seat in
+    let came : Comes d l (own_node cpu) place s seat =
+    subst (λ (n : ℕ). Comes d l (first_node n) place s seat) c.number-number.ensures c.begin-place.ensures.comes in
     record {
-      same = same_since cpu _ (since_first l cpu.seat) (since_comes d l (own_node cpu) s c.begin_slowpath-place.new.seat place came) refl;
+      same = same_since cpu _ (since_first l cpu.seat) (since_comes d l (own_node cpu) s seat place came) refl;
       taken = λ e.
-          let t = subst (λ o. Comes d l (own_node cpu) o s c.begin_slowpath-place.new.seat) (c.turn_of.ensures.has e) came in
+          let t = subst (λ o. Comes d l (own_node cpu) o s seat) (c.turn_of.ensures.has e) came in
           record { took = t; rests = record { frames = t.over.frames; awake = t.over.awake; fresh = t.over.fresh } };
-      halted = asleep_comes d l (own_node cpu) s c.begin_slowpath-place.new.seat place came ∙ sym c.turn_of.ensures.halted;
+      halted = asleep_comes d l (own_node cpu) s seat place came ∙ sym c.turn_of.ensures.halted;
       lock = λ w e. lock_of c.args.lock place w (sym c.turn_of.ensures.waiter ∙ e);
-      waits = λ w e. waits_of d c.args.lock _ place s w c.requires.lock (sym c.turn_of.ensures.waiter ∙ e) came;
+      waits = λ w e. waits_of c.args.domain.now c.args.lock _ place s w c.requires.lock (sym c.turn_of.ensures.waiter ∙ e) came;
     }

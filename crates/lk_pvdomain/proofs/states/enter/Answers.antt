@@ -1,9 +1,9 @@
-use Rattle.std.proofs.Common.{◌≡◌, ◌∙◌, sym, subst}
+use Rattle.std.proofs.Common.{◌≡◌, ◌∙◌, sym, ap, subst}
 use Rattle.atomic_table.specs.Table.{Me}
 use Rattle.lk_domain.specs.Keeps.{Slot}
 use Rattle.lk_domain.specs.NodePlays.{AtEntry, Enters, InCall}
-use Rattle.lk_domain.specs.Views.{IsNumbered}
 use Rattle.lk_domain.specs.declared.view.View.{View}
+use Rattle.lk_pvdomain.proofs.ways.Ways.{moved_seat}
 use Rattle.lk_pvdomain.proofs.states.enter.Goals as goal
 
 pub returns-then-met-eq0-clause-step : goal.returns-then-met-eq0-clause-step
@@ -14,9 +14,7 @@ store_entry-requires c =
     let r = c.requires in
     let back = sym (c.look_entry-met.ensures.stays c.if-met-eq0.false) in
     record {
-      table = c.look_entry-met.ensures.same.0 ∙ r.table;
-      number = subst (λ (m : Me Slot View). IsNumbered m.0) back r.number;
-      own = r.own;
+      of = moved_seat r.of c.look_entry-met.ensures.same.0 (ap (λ (m : Me Slot View). m.0.who) (c.look_entry-met.ensures.stays c.if-met-eq0.false));
       row = subst (λ (m : Me Slot View). InCall (AtEntry c.args.own) m.0) back r.row;
       ready = subst (λ (m : Me Slot View). m.0.calls.ready ≡ 2) back r.ready;
     }

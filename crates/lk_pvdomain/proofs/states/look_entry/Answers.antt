@@ -11,10 +11,10 @@ load-met-requires c =
     let z = d.table.shared.table_id in
     let i = c.state_of-word.result in
     let seat = c.args.seat.now in (
-      c.requires.table,
-      (let few = d.lawful.locks in let a = c.requires.own.cpu in let b = c.requires.own.index in omega (arith, c.state_of-word.ensures, d.words ∙ far_words d.plan d.halting, few, a, b)),
+      c.requires.of.table_is,
+      (let few = d.lawful.locks in let a = c.requires.of.near.cpu in let b = c.requires.of.near.index in omega (arith, c.state_of-word.ensures, d.words ∙ far_words d.plan c.requires.of.halting, few, a, b)),
       spared d.table.shared.key z.slots seat.id seat.me i (Enters seat.me)
-          (enter_asks d.table.shared.key d.plan z.slots seat.id seat.me c.requires.number i d.key d.halting
+          (enter_asks d.table.shared.key d.plan z.slots seat.id seat.me (c.args.own.cpu, c.requires.of.number) i d.key c.requires.of.halting
           c.args.own c.state_of-word.ensures c.requires.row.0 c.requires.row.1 c.requires.ready),
     )
 

@@ -8,8 +8,8 @@ swap-met-requires c =
     let d = c.args.domain.now in
     let z = d.table.shared.table_id in
     let i = c.state_of-word.result in (
-      c.requires.table,
-      (let few = d.lawful.locks in let a = c.requires.own.cpu in let b = c.requires.own.index in omega (arith, c.state_of-word.ensures, d.words ∙ far_words d.plan d.halting, few, a, b)),
-      enter_asks d.table.shared.key d.plan z.slots c.args.seat.now.id c.args.seat.now.me c.requires.number i d.key d.halting
+      c.requires.of.table_is,
+      (let few = d.lawful.locks in let a = c.requires.of.near.cpu in let b = c.requires.of.near.index in omega (arith, c.state_of-word.ensures, d.words ∙ far_words d.plan c.requires.of.halting, few, a, b)),
+      enter_asks d.table.shared.key d.plan z.slots c.args.seat.now.id c.args.seat.now.me (c.args.own.cpu, c.requires.of.number) i d.key c.requires.of.halting
           c.args.own c.state_of-word.ensures c.requires.row.0 c.requires.row.1 c.requires.ready,
     )

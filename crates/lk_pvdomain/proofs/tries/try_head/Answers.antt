@@ -9,9 +9,9 @@ compare_exchange-met-requires c =
     let d = c.args.domain.now in
     let z = d.table.shared.table_id in
     let i = c.lock_word-word.result in (
-      c.requires.table,
+      c.requires.on.1.table_is,
       (let few = d.lawful.locks in let low = c.requires.lock in omega (arith, c.lock_word-word.ensures, d.words, low)),
-      head_told d.table.shared.key d.plan z.slots c.args.seat.now.id c.args.seat.now.me c.requires.number c.args.lock i
+      head_told d.table.shared.key d.plan z.slots c.args.seat.now.id c.args.seat.now.me (c.requires.on.0.cpu, c.requires.on.1.number) c.args.lock i
           (step z.slots i c.args.expected (c.args.expected - 255) none) d.key c.requires.lock c.lock_word-word.ensures refl c.args.expected refl
           c.requires.expected c.requires.row,
     )

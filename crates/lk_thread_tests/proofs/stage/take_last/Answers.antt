@@ -1,9 +1,11 @@
+use Rattle.lk_domain.proofs.Seating.{of_in}
 use Rattle.lk_thread_tests.proofs.TakenOff.{one_less, taken_off, left_over}
 use Rattle.lk_thread_tests.proofs.stage.take_last.Goals as goal
 
 pub returns-clause-domain : goal.returns-clause-domain
 returns-clause-domain c =
-    (taken_off c.args.domain.now c.args.cpus.now.items c.pop.new.self.items c.pop.result c.requires.rest c.pop.ensures.items).domain_is
+    of_in c.pop.result c.args.domain.now
+    (taken_off c.args.domain.now c.args.cpus.now.items c.pop.new.self.items c.pop.result c.requires.rest c.pop.ensures.items).domain_is c.requires.awake
 
 pub returns-clause-idle : goal.returns-clause-idle
 returns-clause-idle c =

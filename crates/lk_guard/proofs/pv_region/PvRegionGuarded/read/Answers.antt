@@ -2,7 +2,7 @@ use Rattle.std.proofs.Common.{ℕ, refl, ap, ◌∙◌, subst}
 use Rattle.lk_abs.specs.declared.holder.Manner.TheVariants.{Spins}
 use Rattle.lk_domain.specs.Ledgers.{Ledger, new_look}
 use Rattle.lk_domain.specs.Views.{own_number}
-use Rattle.lk_pvdomain.specs.PvSeats.{ledger_of}
+use Rattle.lk_domain.specs.Seats.{ledger_of}
 use Rattle.lk_guard.specs.Guards.{guard_in}
 use Rattle.lk_guard.specs.Reads.{HasLooked}
 use Rattle.lk_guard.proofs.Looks.{out_kept, has_read}
@@ -22,7 +22,7 @@ end-requires-clause-home g c =
     let d = c.args.self.now.domain in
     let b = c.hold.new.cpu in
     let begun = c.hold.ensures.begun in
-    out_kept (guard_in d.plan) (own_number b.seat.me.0.who.number) c.look-seen.result.0 c.args.job c.look-seen.result.1
+    out_kept (guard_in d.domain.plan) (own_number b.seat.me.0.who.number) c.look-seen.result.0 c.args.job c.look-seen.result.1
     (ledger_of c.args.cpu.now) (ledger_of b) c.look-seen.new.seat.me.0.ledger begun.trail
     (opens_to_read d (ledger_of c.args.cpu.now) (ledger_of b) begun.trail begun.ledger) c.look-seen.ensures.looked
     ∙ c.requires.ready.1.nothing.home
@@ -30,7 +30,7 @@ end-requires-clause-home g c =
 pub returns-clause-read : goal.returns-clause-read
 returns-clause-read g c =
     let d = c.args.self.now.domain in
-    let h = guard_in d.plan in
+    let h = guard_in d.domain.plan in
     let a = c.args.cpu.now in
     let b = c.hold.new.cpu in
     let e = c.look-seen.new.seat.me.0.ledger in

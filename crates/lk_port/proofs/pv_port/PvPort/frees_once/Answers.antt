@@ -1,7 +1,7 @@
 use Rattle.std.proofs.Common.{false, set, sym, subst, ◌∙◌, arith}
 use Rattle.std.specs.Arc.{arc_value}
 use Rattle.lk_pvdomain.specs.PvCalls.{HasFreed}
-use Rattle.lk_pvdomain.specs.PvSeats.{calls_of}
+use Rattle.lk_domain.specs.Seats.{calls_of}
 use Rattle.lk_pvdomain.specs.declared.domain.PvDomain.{PvDomain}
 use Rattle.lk_pvdomain.proofs.PvSeating.{same_of}
 use Rattle.lk_port.proofs.Ports.{none_out}

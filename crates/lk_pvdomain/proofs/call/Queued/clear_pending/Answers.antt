@@ -2,14 +2,13 @@ use Rattle.std.proofs.Common.{refl, subst}
 use Rattle.lk_rows.specs.declared.parts.Pc.TheVariants.{E5}
 use Rattle.lk_domain.specs.declared.locks.moves.WordUse.TheVariants.{Clears}
 use Rattle.lk_pvdomain.specs.PvWords.{At, Leads}
-use Rattle.lk_pvdomain.proofs.ways.Ways.{numbered}
 use Rattle.lk_pvdomain.proofs.ways.Leads.{word_asks, e5_hashed, e5_else}
 use Rattle.lk_pvdomain.proofs.call.Queued.clear_pending.Goals as goal
 
 pub go_on-requires : goal.go_on-requires
 go_on-requires c =
     let w = c.requires.1 in
-    record { table = w.of.table_is; number = numbered w; lock = w.low; row = word_asks w Clears refl; home = λ e. absurd (cc e) }
+    record { on = (_, w.of); lock = w.low; row = word_asks w Clears refl; home = λ e. absurd (cc e) }
 
 pub returns-clause-hashed : goal.returns-clause-hashed
 returns-clause-hashed c e s w =

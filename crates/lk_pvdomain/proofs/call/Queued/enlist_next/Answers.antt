@@ -1,5 +1,4 @@
 use Rattle.std.proofs.Common.{refl}
-use Rattle.lk_pvdomain.proofs.ways.Ways.{numbered}
 use Rattle.lk_pvdomain.proofs.ways.Leads.{fill_asks}
 use Rattle.lk_pvdomain.proofs.ways.Arrives.{kept}
 use Rattle.lk_pvdomain.proofs.ways.Hands.{k3_leaves}
@@ -8,7 +7,7 @@ use Rattle.lk_pvdomain.proofs.call.Queued.enlist_next.Goals as goal
 pub put_in-requires : goal.put_in-requires
 put_in-requires c =
     let w = c.requires.waits.1 in
-    record { table = w.of.table_is; number = numbered w; lock = w.low; node = c.requires.to; row = fill_asks w c.args.to refl w.has.next }
+    record { on = (_, w.of); lock = w.low; node = c.requires.to; row = fill_asks w c.args.to refl w.has.next }
 
 pub returns-then-put_in : goal.returns-then-put_in
 returns-then-put_in c s w = k3_leaves c.put_in.ensures.same w (c.put_in.ensures.fills c.if-put_in.true)

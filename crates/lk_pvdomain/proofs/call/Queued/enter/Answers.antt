@@ -3,34 +3,28 @@ use Rattle.atomic_table.specs.Table.{Me}
 use Rattle.lk_domain.specs.Keeps.{Slot}
 use Rattle.lk_domain.specs.declared.view.View.{View}
 use Rattle.lk_domain.specs.declared.part.Part.TheVariants as part
-use Rattle.lk_pvdomain.proofs.ways.Ways.{numbered}
 use Rattle.lk_pvdomain.proofs.ways.Arrives.{entry_asks, readied, g1_enters}
 use Rattle.lk_pvdomain.proofs.call.Queued.enter.Goals as goal
 
 pub reset-requires : goal.reset-requires
 reset-requires c =
     let w = c.requires.1 in
-    record { table = w.of.table_is; number = numbered w; own = w.of.near; row = entry_asks w; ready = λ ne. absurd (ne refl); plan = w.of.plan }
+    record { of = w.of; row = entry_asks w; ready = λ ne. absurd (ne refl) }
 
 pub reset-requires-2 : goal.reset-requires-2
 reset-requires-2 c =
     let w = readied c.reset.ensures.same part.Flag c.requires.1 c.reset.ensures.step in
     record {
-      table = w.of.table_is;
-      number = numbered w;
-      own = w.of.near;
+      of = w.of;
       row = entry_asks w;
       ready = λ ne. ap (λ (m : Me Slot View). m.0.calls.ready) c.reset.ensures.step;
-      plan = w.of.plan;
     }
 
 pub enter-requires : goal.enter-requires
 enter-requires c =
     let w = readied c.reset-2.ensures.same part.Next (readied c.reset.ensures.same part.Flag c.requires.1 c.reset.ensures.step) c.reset-2.ensures.step in
     record {
-      table = w.of.table_is;
-      number = numbered w;
-      own = w.of.near;
+      of = w.of;
       row = entry_asks w;
       ready = ap (λ (m : Me Slot View). m.0.calls.ready) c.reset-2.ensures.step;
     }

@@ -5,7 +5,7 @@ use Rattle.lk_word.specs.declared.spin_word.NodeName.{NodeName}
 use Rattle.lk_domain.specs.Plans.{layout_in}
 use Rattle.lk_domain.specs.Words.{IsNode}
 use Rattle.lk_domain.specs.declared.plan.Plan.{Plan}
-use Rattle.lk_pvdomain.proofs.PvSeating.{table_of}
+use Rattle.lk_domain.proofs.Seating.{table_of}
 use Rattle.lk_pvdomain.proofs.ways.Ways.{numbered}
 use Rattle.lk_pvdomain.proofs.ways.Arrives.{kept, tail_asks, g4_first, g4_behind}
 use Rattle.lk_pvdomain.proofs.call.Queued.exchange.Goals as goal

@@ -7,7 +7,6 @@ use Rattle.lk_domain.specs.Plans.{layout_in}
 use Rattle.lk_domain.specs.declared.plan.Plan.{Plan}
 use Rattle.lk_domain.specs.declared.locks.moves.WordUse.TheVariants.{Looks}
 use Rattle.lk_pvdomain.specs.PvWords.{At, Steals}
-use Rattle.lk_pvdomain.proofs.ways.Ways.{numbered}
 use Rattle.lk_pvdomain.proofs.ways.Leads.{word_asks}
 use Rattle.lk_pvdomain.proofs.ways.Arrives.{h1_looks}
 use Rattle.lk_pvdomain.proofs.call.Queued.glance.Goals as goal
@@ -15,7 +14,7 @@ use Rattle.lk_pvdomain.proofs.call.Queued.glance.Goals as goal
 pub go_on-met-requires : goal.go_on-met-requires
 go_on-met-requires c =
     let w = c.requires.1 in
-    record { table = w.of.table_is; number = numbered w; lock = w.low; row = word_asks w Looks refl; home = λ e. absurd (cc e) }
+    record { on = (_, w.of); lock = w.low; row = word_asks w Looks refl; home = λ e. absurd (cc e) }
 
 pub word_met-word-requires : goal.word_met-word-requires
 word_met-word-requires c =

@@ -5,7 +5,7 @@ use Rattle.lk_pvdomain.proofs.call.Queued.halt.Goals as goal
 pub halt-requires : goal.halt-requires
 halt-requires c =
     let w = c.requires.waits.1 in
-    record { table = w.of.table_is; number = w.of.number; cpu = w.of.near.cpu; row = halt_asks w refl; awake = w.awake }
+    record { of = w.of; row = halt_asks w refl; awake = w.awake }
 
 pub returns : goal.returns
 returns c s w = (c.requires.prev, w6_halts c.halt.ensures.same w c.halt.ensures.step)

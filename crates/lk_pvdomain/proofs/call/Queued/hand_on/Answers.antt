@@ -1,4 +1,4 @@
-use Rattle.lk_pvdomain.proofs.PvSeating.{table_of}
+use Rattle.lk_domain.proofs.Seating.{table_of}
 use Rattle.lk_pvdomain.proofs.ways.Ways.{numbered}
 use Rattle.lk_pvdomain.proofs.ways.Hands.{hand_asks, e15_hands}
 use Rattle.lk_pvdomain.proofs.call.Queued.hand_on.Goals as goal

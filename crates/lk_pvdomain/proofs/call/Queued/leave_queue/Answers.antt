@@ -6,14 +6,13 @@ use Rattle.lk_rows.specs.Moves.{is_node}
 use Rattle.lk_rows.specs.rows.Cna.{is_held}
 use Rattle.lk_domain.specs.Plans.{layout_in}
 use Rattle.lk_domain.specs.declared.plan.Plan.{Plan}
-use Rattle.lk_pvdomain.proofs.ways.Ways.{numbered}
 use Rattle.lk_pvdomain.proofs.ways.Hands.{last_asks, e13_leaves, e13_stays}
 use Rattle.lk_pvdomain.proofs.call.Queued.leave_queue.Goals as goal
 
 pub quit-met-requires : goal.quit-met-requires
 quit-met-requires c =
     let w = c.requires.1 in
-    record { table = w.of.table_is; number = numbered w; lock = w.low; own = w.of.near; row = last_asks w }
+    record { of = w.of; lock = w.low; row = last_asks w }
 
 pub word_met-requires : goal.word_met-requires
 word_met-requires c =

@@ -1,4 +1,4 @@
-use Rattle.lk_pvdomain.proofs.PvSeating.{table_of}
+use Rattle.lk_domain.proofs.Seating.{table_of}
 use Rattle.lk_pvdomain.proofs.ways.Ways.{numbered}
 use Rattle.lk_pvdomain.proofs.ways.Arrives.{link_asks, g5_links}
 use Rattle.lk_pvdomain.proofs.call.Queued.link.Goals as goal

@@ -1,6 +1,5 @@
 use Rattle.std.proofs.Common.{refl}
 use Rattle.std.proofs.lemmas.Bool.{eqb-true, eqb-false}
-use Rattle.lk_pvdomain.proofs.ways.Ways.{numbered}
 use Rattle.lk_pvdomain.proofs.ways.Waits.{mine, look_asks}
 use Rattle.lk_pvdomain.proofs.ways.Leads.{e1_hashed, e1_else}
 use Rattle.lk_pvdomain.proofs.call.Queued.look_at_state.Goals as goal
@@ -9,7 +8,7 @@ pub look_state-requires : goal.look_state-requires
 look_state-requires c =
     let w = c.requires.1 in
     let own = c.args.self.now.own in
-    record { table = w.of.table_is; number = numbered w; node = w.of.near; row = look_asks w own refl (mine w.frame own w.has) }
+    record { on = (_, w.of); node = w.of.near; row = look_asks w own refl (mine w.frame own w.has) }
 
 pub returns-clause-hashed : goal.returns-clause-hashed
 returns-clause-hashed c e s w = e1_hashed c.look_state.ensures.same w c.look_state.ensures.step (eqb-true _ _ e)

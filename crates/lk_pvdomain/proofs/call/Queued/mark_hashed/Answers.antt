@@ -1,6 +1,5 @@
 use Rattle.std.proofs.Common.{refl}
 use Rattle.std.proofs.lemmas.Bool.{eqb-true, eqb-false}
-use Rattle.lk_pvdomain.proofs.ways.Ways.{numbered}
 use Rattle.lk_pvdomain.proofs.ways.Waits.{rouse_asks}
 use Rattle.lk_pvdomain.proofs.ways.Hands.{next_node, k1_leaves, k1_signs}
 use Rattle.lk_pvdomain.proofs.call.Queued.mark_hashed.Goals as goal
@@ -8,7 +7,7 @@ use Rattle.lk_pvdomain.proofs.call.Queued.mark_hashed.Goals as goal
 pub rouse-requires : goal.rouse-requires
 rouse-requires c =
     let w = c.requires.waits.1 in
-    record { table = w.of.table_is; number = numbered w; node = c.requires.to; row = rouse_asks w c.args.to _ refl (next_node w.frame c.args.to w.has.next) refl }
+    record { on = (_, w.of); node = c.requires.to; row = rouse_asks w c.args.to _ refl (next_node w.frame c.args.to w.has.next) refl }
 
 pub returns-clause-halted : goal.returns-clause-halted
 returns-clause-halted c e s w = k1_signs c.rouse.ensures.same w c.rouse.ensures.step (eqb-true _ _ e)

@@ -5,7 +5,6 @@ use Rattle.lk_pvdomain.specs.PvPlays.{steal_fails}
 use Rattle.lk_pvdomain.specs.PvRows.{tries_steal}
 use Rattle.lk_pvdomain.specs.PvWords.{At, Steals}
 use Rattle.lk_pvdomain.proofs.Fails.{tried, steal_failed, steal_again}
-use Rattle.lk_pvdomain.proofs.ways.Ways.{numbered}
 use Rattle.lk_pvdomain.proofs.ways.Leads.{acts}
 use Rattle.lk_pvdomain.proofs.ways.Arrives.{kept, h2_takes, h2_again, h2_joins}
 use Rattle.lk_pvdomain.proofs.call.Queued.take_past.Goals as goal
@@ -13,7 +12,7 @@ use Rattle.lk_pvdomain.proofs.call.Queued.take_past.Goals as goal
 pub try_steal-met-requires : goal.try_steal-met-requires
 try_steal-met-requires c =
     let w = c.requires.1 in
-    record { table = w.of.table_is; number = numbered w; lock = w.low; expected = omega (arith, c.without_low_byte-expected.ensures); row = acts w tries_steal refl }
+    record { on = (_, w.of); lock = w.low; expected = omega (arith, c.without_low_byte-expected.ensures); row = acts w tries_steal refl }
 
 pub returns-then-met-expected-clause-takes : goal.returns-then-met-expected-clause-takes
 returns-then-met-expected-clause-takes c e s w =

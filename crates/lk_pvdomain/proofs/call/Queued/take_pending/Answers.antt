@@ -4,7 +4,6 @@ use Rattle.lk_rows.specs.declared.setup.Verb.TheVariants.{Lock}
 use Rattle.lk_pvdomain.specs.PvPlays.{head_fails}
 use Rattle.lk_pvdomain.specs.PvRows.{tries_head}
 use Rattle.lk_pvdomain.proofs.Fails.{tried, head_failed, head_again}
-use Rattle.lk_pvdomain.proofs.ways.Ways.{numbered}
 use Rattle.lk_pvdomain.proofs.ways.Leads.{acts, e4_takes, e4_last, e4_again}
 use Rattle.lk_pvdomain.proofs.ways.Arrives.{kept}
 use Rattle.lk_pvdomain.proofs.call.Queued.take_pending.Goals as goal
@@ -12,7 +11,7 @@ use Rattle.lk_pvdomain.proofs.call.Queued.take_pending.Goals as goal
 pub look_head-seen-requires : goal.look_head-seen-requires
 look_head-seen-requires c =
     let w = c.requires.1 in
-    record { table = w.of.table_is; number = numbered w; lock = w.low; row = acts w tries_head refl }
+    record { on = (_, w.of); lock = w.low; row = acts w tries_head refl }
 
 pub returns-then-not-is_free_for_pending-clause-last : goal.returns-then-not-is_free_for_pending-clause-last
 returns-then-not-is_free_for_pending-clause-last c n e low s w =
@@ -36,7 +35,7 @@ try_head-met-requires c =
     let seen = c.look_head-seen.result in
     let free = eqb-true _ _ (sym c.is_free_for_pending.ensures ∙ c.if-not-is_free_for_pending.false) in
     let v = kept c.look_head-seen.ensures.same c.requires.1 (t.stays (λ z. omega (arith, z, free)) (head_again _ t.found seen t.word free)) in
-    record { table = v.of.table_is; number = numbered v; lock = v.low; expected = free; row = acts v tries_head refl }
+    record { on = (_, v.of); lock = v.low; expected = free; row = acts v tries_head refl }
 
 pub returns-then-met-seen-clause-takes : goal.returns-then-met-seen-clause-takes
 returns-then-met-seen-clause-takes c e s w =

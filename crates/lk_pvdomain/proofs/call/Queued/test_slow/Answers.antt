@@ -1,14 +1,13 @@
 use Rattle.std.proofs.Common.{refl, sym, ◌∙◌}
 use Rattle.std.proofs.lemmas.Bool.{eqb-true, eqb-false}
 use Rattle.lk_domain.specs.declared.locks.moves.WordUse.TheVariants.{Looks}
-use Rattle.lk_pvdomain.proofs.ways.Ways.{numbered}
 use Rattle.lk_pvdomain.proofs.ways.Leads.{word_asks, e11_slow, e11_else}
 use Rattle.lk_pvdomain.proofs.call.Queued.test_slow.Goals as goal
 
 pub go_on-requires : goal.go_on-requires
 go_on-requires c =
     let w = c.requires.1 in
-    record { table = w.of.table_is; number = numbered w; lock = w.low; row = word_asks w Looks refl; home = λ e. absurd (cc e) }
+    record { on = (_, w.of); lock = w.low; row = word_asks w Looks refl; home = λ e. absurd (cc e) }
 
 pub returns-clause-slow : goal.returns-clause-slow
 returns-clause-slow c e s w = e11_slow c.go_on.ensures.same w c.go_on.ensures.step (sym c.low_byte.ensures ∙ eqb-true _ _ e)

@@ -1,6 +1,5 @@
 use Rattle.std.proofs.Common.{refl}
 use Rattle.std.proofs.lemmas.Bool.{eqb-true, eqb-false}
-use Rattle.lk_pvdomain.proofs.ways.Ways.{numbered}
 use Rattle.lk_pvdomain.proofs.ways.Waits.{mine, look_asks, w5_halted, w5_else}
 use Rattle.lk_pvdomain.proofs.call.Queued.test_state.Goals as goal
 
@@ -8,7 +7,7 @@ pub look_state-requires : goal.look_state-requires
 look_state-requires c =
     let w = c.requires.1 in
     let own = c.args.self.now.own in
-    record { table = w.of.table_is; number = numbered w; node = w.of.near; row = look_asks w own refl (mine w.frame own w.has.me) }
+    record { on = (_, w.of); node = w.of.near; row = look_asks w own refl (mine w.frame own w.has.me) }
 
 pub returns-clause-halted : goal.returns-clause-halted
 returns-clause-halted c e s w = w5_halted c.look_state.ensures.same w c.look_state.ensures.step (eqb-true _ _ e)

@@ -3,7 +3,7 @@ use Rattle.lk_pvdomain.specs.PvRests.{Comes}
 use Rattle.lk_pvdomain.proofs.call.Queued.wait_on.Goals as goal
 
 pub give_way-requires : goal.give_way-requires
-give_way-requires g c = c.args.self.now.node.cpu
+give_way-requires g c = record { halting = c.args.self.now.halting; cpu = c.args.self.now.node.cpu }
 
 pub turn-requires : goal.turn-requires
 turn-requires g c = (c.requires.0, c.loop.invariant c.requires.0 c.requires.1)

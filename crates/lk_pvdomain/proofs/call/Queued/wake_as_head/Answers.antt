@@ -1,10 +1,12 @@
+use Rattle.std.proofs.Common.{refl}
 use Rattle.lk_pvdomain.proofs.ways.Arrives.{woke, sleeps_on}
+use Rattle.lk_pvdomain.proofs.ways.Ways.{moved_seat}
 use Rattle.lk_pvdomain.proofs.call.Queued.wake_as_head.Goals as goal
 
 pub is_woken-requires : goal.is_woken-requires
 is_woken-requires c =
     let w = c.requires.1 in
-    record { table = w.wakes.of.table_is; number = w.wakes.of.number; cpu = w.wakes.of.near.cpu; one = (w.call, w.only); asleep = w.asleep }
+    record { of = moved_seat w.wakes.of refl refl; one = (w.call, w.only); asleep = w.asleep }
 
 pub returns-clause-kicked : goal.returns-clause-kicked
 returns-clause-kicked c e s w = woke c.is_woken.ensures.same w (c.is_woken.ensures.woken e)

@@ -1,6 +1,5 @@
 use Rattle.std.proofs.lemmas.Bool.{leb-true, leb-false}
 use Rattle.std.proofs.Common.{refl, arith}
-use Rattle.lk_pvdomain.proofs.ways.Ways.{numbered}
 use Rattle.lk_pvdomain.proofs.ways.Waits.{before, look_asks, w2_stops, w2_last, w2_again}
 use Rattle.lk_pvdomain.proofs.call.Queued.watch.Goals as goal
 
@@ -8,7 +7,7 @@ pub look_state-requires : goal.look_state-requires
 look_state-requires c =
     let w = c.requires.waits.1 in
     let prev = c.args.spinning.prev in
-    record { table = w.of.table_is; number = numbered w; node = c.requires.prev; row = look_asks w prev refl (before w.frame prev w.has.prev) }
+    record { on = (_, w.of); node = c.requires.prev; row = look_asks w prev refl (before w.frame prev w.has.prev) }
 
 pub returns-then-look_state-ne-RUNNING-clause-stops : goal.returns-then-look_state-ne-RUNNING-clause-stops
 returns-then-look_state-ne-RUNNING-clause-stops c e s w = w2_stops c.look_state.ensures.same w c.look_state.ensures.step c.if-look_state-ne-RUNNING.true

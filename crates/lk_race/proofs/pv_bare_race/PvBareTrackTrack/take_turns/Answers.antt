@@ -17,7 +17,7 @@ pv_unlock-requires-clause-held g c =
     let old = c.loop.cpu in
     let mid = c.pv_lock.new.cpu in
     is_held 0 Spins (cpu.Halting old) (cpu.Halting mid)
-    (locked_last (terms_of d.plan) old.number Lock 0 (cpu.Halting old) (cpu.Halting mid) (pv_same old mid c.pv_lock.ensures.same)
+    (locked_last (terms_of d.domain.plan) old.number Lock 0 (cpu.Halting old) (cpu.Halting mid) (pv_same old mid c.pv_lock.ensures.same)
     (pv_has_locked d old was.ready 0 Lock mid (λ hs. refl) c.pv_lock.ensures.taken)
     (holds_none (domain.Halting d) c.args.cpu.now.number (cpu.Halting old) 0 was))
 
@@ -28,7 +28,7 @@ pv_unlock-requires-clause-value g c =
     let old = c.loop.cpu in
     let mid = c.pv_lock.new.cpu in
     none_out 0 Spins (cpu.Halting old) (cpu.Halting mid)
-    (locked_last (terms_of d.plan) old.number Lock 0 (cpu.Halting old) (cpu.Halting mid) (pv_same old mid c.pv_lock.ensures.same)
+    (locked_last (terms_of d.domain.plan) old.number Lock 0 (cpu.Halting old) (cpu.Halting mid) (pv_same old mid c.pv_lock.ensures.same)
     (pv_has_locked d old was.ready 0 Lock mid (λ hs. refl) c.pv_lock.ensures.taken)
     (holds_none (domain.Halting d) c.args.cpu.now.number (cpu.Halting old) 0 was))
 
@@ -41,7 +41,7 @@ loop-preserved g c =
     let mid = c.pv_lock.new.cpu in
     let new = c.pv_unlock.new.cpu in
     let in_it : IsHolding 0 Spins (cpu.Halting old) (cpu.Halting mid) =
-    locked_last (terms_of d.plan) old.number Lock 0 (cpu.Halting old) (cpu.Halting mid) (pv_same old mid c.pv_lock.ensures.same)
+    locked_last (terms_of d.domain.plan) old.number Lock 0 (cpu.Halting old) (cpu.Halting mid) (pv_same old mid c.pv_lock.ensures.same)
     (pv_has_locked d old was.ready 0 Lock mid (λ hs. refl) c.pv_lock.ensures.taken)
     (holds_none (domain.Halting d) i (cpu.Halting old) 0 was) in
     let ready = pv_locked d old was.ready 0 Lock mid c.pv_lock.ensures.same c.pv_lock.ensures.taken in

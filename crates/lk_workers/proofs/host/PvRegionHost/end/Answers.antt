@@ -1,8 +1,10 @@
 use Rattle.std.proofs.Common.{map, sym, ap, ◌∙◌, subst}
 use Rattle.lk_abs.specs.Journal.{balances_after}
 use Rattle.lk_abs.specs.ListOf.{ListOf}
-use Rattle.lk_pvdomain.specs.PvSeats.{AllRest, IsFinal, ledger_of}
-use Rattle.lk_pvdomain.specs.declared.cpu.PvCpu.{PvCpu}
+use Rattle.lk_domain.specs.Ends.{IsFinal}
+use Rattle.lk_domain.specs.Seats.{ledger_of}
+use Rattle.lk_pvdomain.specs.PvSeats.{AllRest}
+use Rattle.lk_domain.specs.declared.cpu.Cpu.{Cpu}
 use Rattle.lk_pvdomain.specs.declared.domain.PvDomain.{PvDomain}
 use Rattle.lk_workers.proofs.PvStarts.{rest}
 use Rattle.lk_workers.proofs.host.PvRegionHost.end.Goals as goal
@@ -17,8 +19,8 @@ returns c =
     let journal = c.in-Ok.closed.journal.items in
     let end = c.in-Ok.ensures in
     record {
-      final = subst (λ (d : PvDomain). IsFinal d.plan c.args.cpus.items journal) same end.ends;
-      balances = end.balances ∙ ap (λ (d : PvDomain). balances_after d.plan.balances.items journal) same;
-      looks = ap (λ (cpus : ListOf PvCpu). map (λ (cpu : PvCpu). (ledger_of cpu).looks) cpus.items) end.cpus;
+      final = subst (λ (d : PvDomain). IsFinal d.domain.plan c.args.cpus.items journal) same end.ends;
+      balances = end.balances ∙ ap (λ (d : PvDomain). balances_after d.domain.plan.balances.items journal) same;
+      looks = ap (λ (cpus : ListOf Cpu). map (λ (cpu : Cpu). (ledger_of cpu).looks) cpus.items) end.cpus;
       of = c.requires.mode;
     }

@@ -10,8 +10,8 @@ use Rattle.lk_workers.proofs.host.PvRegionHost.make.Goals as goal
 pub returns-clause-suits : goal.returns-clause-suits
 returns-clause-suits c =
     let work = workload_of c.args.file.now in
-    subst (λ (d : PvDomain). IsFor work d.plan) (sym c.new-2.ensures)
-    (suits work c.in_ok-pv_plan_of.field-0 c.in_ok-domain.domain.plan c.requires.lawful c.requires.mode c.in_ok-pv_plan_of.ensures.plan c.in_ok-domain.ensures.plan)
+    subst (λ (d : PvDomain). IsFor work d.domain.plan) (sym c.new-2.ensures)
+    (suits work c.in_ok-pv_plan_of.field-0 c.in_ok-domain.domain.domain.plan c.requires.lawful c.requires.mode c.in_ok-pv_plan_of.ensures.plan c.in_ok-domain.ensures.plan)
 
 pub returns-clause-dealt : goal.returns-clause-dealt
 returns-clause-dealt c =

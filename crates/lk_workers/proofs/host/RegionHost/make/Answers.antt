@@ -1,7 +1,8 @@
-use Rattle.std.proofs.Common.{sym, subst}
+use Rattle.std.proofs.Common.{sym, ap, ◌∙◌, subst}
 use Rattle.lk_abs.specs.Workload.{workload_of}
 use Rattle.lk_domain.specs.declared.domain.Domain.{Domain}
 use Rattle.lk_guard.specs.Idle.{crew_of}
+use Rattle.lk_law.specs.Agree.{halts}
 use Rattle.lk_workers.specs.Plans.{IsFor}
 use Rattle.lk_workers.specs.Workers.{InOrder, IsDealt}
 use Rattle.lk_workers.proofs.Starts.{dealt, suits}
@@ -16,4 +17,5 @@ returns-clause-suits c =
 pub returns-clause-dealt : goal.returns-clause-dealt
 returns-clause-dealt c =
     let cpus = c.in_ok-domain.cpus.items in
-    subst (λ (d : Domain). InOrder (IsDealt (crew_of d)) cpus) (sym c.new-2.ensures) (dealt c.in_ok-domain.domain cpus c.in_ok-domain.ensures.cpus)
+    let awake = ap halts (c.in_ok-domain.ensures.plan.mode ∙ c.in_ok-plan_of.ensures.plan.mode) ∙ c.requires.mode in
+    subst (λ (d : Domain). InOrder (IsDealt (crew_of d)) cpus) (sym c.new-2.ensures) (dealt c.in_ok-domain.domain cpus awake c.in_ok-domain.ensures.cpus)

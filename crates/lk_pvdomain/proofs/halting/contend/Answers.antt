@@ -1,4 +1,4 @@
-use Rattle.lk_pvdomain.proofs.calls.contend.Goals as goal
+use Rattle.lk_pvdomain.proofs.halting.contend.Goals as goal
 
 pub wait_on-requires : goal.wait_on-requires
 wait_on-requires g c = c.requires.at

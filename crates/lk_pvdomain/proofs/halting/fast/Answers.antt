@@ -4,9 +4,9 @@ use Rattle.lk_domain.specs.Rows.{is_take}
 use Rattle.lk_rows.specs.declared.setup.Verb.TheVariants.{Lock}
 use Rattle.lk_domain.specs.Calls.{Running}
 use Rattle.std.proofs.Common.{List}
-use Rattle.lk_pvdomain.proofs.PvSeating.{table_of}
+use Rattle.lk_domain.proofs.Seating.{table_of}
 use Rattle.lk_pvdomain.proofs.ways.Arrives.{first_acts, is_spin, f1_takes, f1_goes}
-use Rattle.lk_pvdomain.proofs.calls.fast.Goals as goal
+use Rattle.lk_pvdomain.proofs.halting.fast.Goals as goal
 
 pub take_free-requires : goal.take_free-requires
 take_free-requires c =

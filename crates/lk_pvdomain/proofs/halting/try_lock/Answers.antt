@@ -2,11 +2,11 @@ use Rattle.std.proofs.Common.{refl, ap, List}
 use Rattle.lk_domain.specs.Calls.{Running, waits_in}
 use Rattle.lk_domain.specs.Rows.{is_look, is_take}
 use Rattle.lk_rows.specs.declared.setup.Verb.TheVariants.{Try}
-use Rattle.lk_pvdomain.proofs.PvSeating.{table_of}
+use Rattle.lk_domain.proofs.Seating.{table_of}
 use Rattle.lk_pvdomain.proofs.ways.Ways.{numbered}
 use Rattle.lk_pvdomain.proofs.ways.Leads.{acts}
 use Rattle.lk_pvdomain.proofs.ways.Arrives.{first_acts, is_spin, t1_sees, t1_misses, t2_takes, t2_misses}
-use Rattle.lk_pvdomain.proofs.calls.attempt.Goals as goal
+use Rattle.lk_pvdomain.proofs.halting.try_lock.Goals as goal
 
 pub look_once-requires : goal.look_once-requires
 look_once-requires c =
@@ -16,7 +16,7 @@ look_once-requires c =
       table = table_of c.args.domain.now;
       seat = r.of.table_is;
       lock = low;
-      number = (c.args.own.cpu, r.of.number);
+      number = (c.args.cpu, r.of.number);
       row = first_acts r Try c.args.lock c.args.seat.now.id low is_look refl
           (c.requires.free, ap (λ (xs : List Running). waits_in xs c.args.lock) r.frames)
           (is_spin r Try c.args.lock c.args.seat.now.id low);

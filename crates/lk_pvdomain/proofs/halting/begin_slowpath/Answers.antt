@@ -1,4 +1,4 @@
-use Rattle.lk_pvdomain.proofs.polled.begin_slowpath.Goals as goal
+use Rattle.lk_pvdomain.proofs.halting.begin_slowpath.Goals as goal
 
 pub contend-requires : goal.contend-requires
 contend-requires c = c.requires.at

@@ -1,0 +1,145 @@
+//! The calls by a seat, whose processor is number `cpu` of a domain that halts. It must be in no call.
+//! The calls by a [`PvCpu`](crate::PvCpu) say what each of them does.
+ghost use Rattle.std.specs.Prelude.{◌≡◌, ◌<◌, false, true};
+ghost use Rattle.lk_rows.specs.declared.parts.Pc.TheVariants.{G1};
+ghost use Rattle.lk_rows.specs.declared.setup.Verb.TheVariants.{Lock, Try, Unlock};
+ghost use Rattle.lk_domain.specs.Calls.{Frees, Unchanged, holds_in};
+ghost use Rattle.lk_domain.specs.Paths.{Any};
+ghost use Rattle.lk_domain.specs.Plans.{locks_of};
+ghost use Rattle.lk_pvdomain.specs.PvCalls.{IsAsItWas, MayFree};
+ghost use Rattle.lk_pvdomain.specs.PvPaths.{At, Ended, Rests, Start, Took, first_node, first_of};
+ghost use Rattle.lk_pvdomain.specs.PvReleases.{has_freed, kicked_in, whom};
+ghost use Rattle.lk_pvdomain.specs.PvRests.{Comes};
+
+use crate::call::Queued;
+use crate::freeing::{self, PvRelease};
+use crate::rest::PvRest;
+use crate::tries;
+use lk_domain::{Domain, Right, moves};
+use lk_word::{HELD, NodeName};
+use std::sync::Wait;
+
+// The row F1. Returns whether it acquired the lock.
+#[inline]
+fn fast(seat: &mut Right, domain: &Domain, lock: u32) -> bool
+    requires rests { (own : NodeName) × Rests domain.now own seat.old }
+    requires lock { lock < locks_of domain.now.plan }
+    requires free { holds_in seat.old.me.0.calls.holds lock ≡ false }
+    ensures took { result ≡ true → (own : NodeName) → Rests domain.now own seat.old
+        → Took domain.now Lock lock own (first_of Lock lock seat.old) seat.new }
+    ensures goes { result ≡ false → (own : NodeName) → Rests domain.now own seat.old
+        → At domain.now Lock lock own (first_of Lock lock seat.old) G1 Any seat.new }
+{
+    if moves::take_free(seat, &domain.table, &domain.plan, lock) == 0 {
+        return true;
+    }
+    false
+}
+
+// From G1, until it holds the lock. It is a function of its own, to keep the code of an uncontended
+// call short. So it builds the value of the call, and `lock` does not.
+#[cold]
+#[inline(never)]
+fn contend<R: Wait>(seat: &mut Right, rt: &R, domain: &Domain, lock: u32, own: NodeName)
+    requires at { (s : Start) × At domain.now Lock lock own s G1 Any seat.old }
+    ensures took { (s : Start) → At domain.now Lock lock own s G1 Any seat.old
+        → Took domain.now Lock lock own s seat.new }
+{
+    let call = Queued { domain, lock, own };
+    call.wait_on(seat, rt);
+}
+
+/// Acquires the lock, and returns once the processor holds it ([`pv_lock`](crate::pv_lock)).
+#[inline]
+pub fn lock<R: Wait>(seat: &mut Right, rt: &R, domain: &Domain, lock: u32, cpu: u32)
+    requires rests { Rests domain.now (first_node cpu) seat.old }
+    requires lock { lock < locks_of domain.now.plan }
+    requires free { holds_in seat.old.me.0.calls.holds lock ≡ false }
+    ensures took { Took domain.now Lock lock (first_node cpu) (first_of Lock lock seat.old) seat.new }
+{
+    if fast(seat, domain, lock) {
+        return;
+    }
+    let own = NodeName { cpu, index: 0 };
+    contend(seat, rt, domain, lock, own);
+}
+
+/// Tries once to acquire the lock, by the rows T1 and T2. Returns whether it did
+/// ([`pv_try_lock`](crate::pv_try_lock)).
+pub fn try_lock(seat: &mut Right, domain: &Domain, lock: u32, cpu: u32) -> bool
+    requires rests { Rests domain.now (first_node cpu) seat.old }
+    requires lock { lock < locks_of domain.now.plan }
+    requires free { holds_in seat.old.me.0.calls.holds lock ≡ false }
+    ensures took { result ≡ true
+        → Took domain.now Try lock (first_node cpu) (first_of Try lock seat.old) seat.new }
+    ensures missed { result ≡ false
+        → Ended domain.now Try lock (first_node cpu) (first_of Try lock seat.old) Unchanged seat.new }
+{
+    if moves::look_once(seat, &domain.table, &domain.plan, lock) != 0 {
+        return false;
+    }
+    if moves::take_once(seat, &domain.table, &domain.plan, lock) == 0 {
+        return true;
+    }
+    false
+}
+
+/// Releases a lock that the processor holds ([`pv_unlock`](crate::pv_unlock)).
+#[inline]
+pub fn unlock<R: Wait>(seat: &mut Right, rt: &R, domain: &Domain, lock: u32)
+    requires may { (own : NodeName) × MayFree domain.now lock own seat.old }
+    ensures freed { (own : NodeName) → Rests domain.now own seat.old
+        → Ended domain.now Unlock lock own (first_of Unlock lock seat.old) Frees seat.new }
+{
+    let met = tries::try_release(seat, domain, lock, HELD);
+    if met == HELD {
+        return;
+    }
+    freeing::release(seat, rt, domain, lock, met);
+}
+
+/// Tries to release a lock that the processor holds, without waiting
+/// ([`pv_try_unlock`](crate::pv_try_unlock)).
+#[inline]
+pub fn try_unlock(seat: &mut Right, domain: &Domain, lock: u32) -> PvRelease
+    requires may { (own : NodeName) × MayFree domain.now lock own seat.old }
+    ensures freed { has_freed result ≡ true → (own : NodeName) → Rests domain.now own seat.old
+        → Ended domain.now Unlock lock own (first_of Unlock lock seat.old) Frees seat.new }
+    ensures whom { has_freed result ≡ true → kicked_in seat.new.me.0.calls.last ≡ whom result }
+    ensures still { has_freed result ≡ false → IsAsItWas seat.old seat.new }
+{
+    let met = tries::try_release(seat, domain, lock, HELD);
+    if met == HELD {
+        return PvRelease::Freed;
+    }
+    freeing::try_once(seat, domain, lock, met)
+}
+
+// From G1. It is out of the way of a call that takes a free lock, which builds no `Queued`.
+#[cold]
+#[inline(never)]
+fn begin_slowpath(seat: &mut Right, domain: &Domain, lock: u32, own: NodeName) -> Option<PvRest>
+    requires at { (s : Start) × At domain.now Lock lock own s G1 Any seat.old }
+    ensures comes { (s : Start) → At domain.now Lock lock own s G1 Any seat.old
+        → Comes domain.now lock own result s seat.new }
+{
+    let call = Queued { domain, lock, own };
+    call.contend(seat)
+}
+
+// Begins a call of `lock`, and makes its first turn. Returns where it rests, or none where the
+// processor holds the lock.
+#[inline]
+pub(crate) fn begin(seat: &mut Right, domain: &Domain, lock: u32, cpu: u32) -> Option<PvRest>
+    requires rests { Rests domain.now (first_node cpu) seat.old }
+    requires lock { lock < locks_of domain.now.plan }
+    requires free { holds_in seat.old.me.0.calls.holds lock ≡ false }
+    ensures comes { Comes domain.now lock (first_node cpu) result (first_of Lock lock seat.old)
+        seat.new }
+{
+    if fast(seat, domain, lock) {
+        return None;
+    }
+    let own = NodeName { cpu, index: 0 };
+    begin_slowpath(seat, domain, lock, own)
+}
