@@ -1,114 +1,116 @@
--- The same of a processor whose family halts, by what the calls of `lk_pvdomain` leave.
-use Rattle.std.proofs.Common.{◌≡◌, ℕ, ◌<◌, List, ◌∷◌, Bool, refl, sym, ap, ◌∙◌, subst}
-use Rattle.lk_abs.specs.declared.holder.Manner.{Manner}
+-- The same where the family halts, by what the calls of `lk_pvdomain` leave.
+use Rattle.std.proofs.Common.{◌≡◌, ℕ, ◌<◌, List, ◌∷◌, Bool, Some, true, false, refl, sym, ap, ◌∙◌, subst, arith}
+use Rattle.atomic_table.specs.declared.shared.Seat.{Seat}
 use Rattle.lk_abs.specs.declared.holder.Manner.TheVariants.{Spins}
+use Rattle.lk_law.specs.Agree.{halts}
 use Rattle.lk_rows.specs.declared.setup.Verb.{Verb}
-use Rattle.lk_rows.specs.declared.setup.Verb.TheVariants.{Try}
-use Rattle.lk_domain.specs.Calls.{Hold, Takes, Unchanged, begun, hold, holds_begun, lock_name, terms_of}
-use Rattle.lk_domain.specs.Ledgers.{Ledger}
+use Rattle.lk_rows.specs.declared.setup.Verb.TheVariants.{Unlock}
+use Rattle.lk_domain.specs.Calls.{Frees, Hold, Takes, begun, hold, holds_begun, holds_in, lock_name, terms_of}
 use Rattle.lk_domain.specs.Plans.{locks_of}
-use Rattle.lk_domain.specs.Values.{bringing, lock_of, taking}
+use Rattle.lk_domain.specs.Plays.{carried_of}
+use Rattle.lk_domain.specs.Seats.{IsSame, calls_of}
+use Rattle.lk_domain.specs.Values.{Slot}
+use Rattle.lk_domain.specs.Who.{Who}
+use Rattle.lk_domain.specs.declared.cpu.Cpu.{Cpu}
+use Rattle.lk_domain.specs.declared.domain.Domain.{Domain}
 use Rattle.lk_domain.specs.declared.plan.Plan.{Plan}
 use Rattle.lk_domain.specs.declared.view.View.{View}
-use Rattle.lk_domain.proofs.seats.Homes.{own_lock}
-use Rattle.lk_pvdomain.specs.PvCalls.{HasFreed, HasMissed, HasTakenBy, IsResting, without}
-use Rattle.lk_pvdomain.specs.PvSeats as seats
-use Rattle.lk_pvdomain.specs.declared.cpu.PvCpu.{PvCpu}
-use Rattle.lk_pvdomain.specs.declared.domain.PvDomain.{PvDomain}
-use Rattle.lk_pvdomain.proofs.ways.Frees.{out_freed}
-use Rattle.lk_lock.specs.Families.{IsSame}
-use Rattle.lk_lock.specs.Standing.{IsAsBefore, IsHolding, IsReady}
-use Rattle.lk_lock.specs.Turns.{FreesBy, HasLocked, HasPassed, HasUnlocked, PathBy}
-use Rattle.lk_lock.specs.declared.family.AnyCpu.{AnyCpu}
-use Rattle.lk_lock.specs.declared.family.AnyCpu.TheVariants as cpu
-use Rattle.lk_lock.specs.declared.family.AnyDomain.TheVariants as domain
-use Rattle.lk_lock.proofs.Marks.{left_without, turned_out}
-use Rattle.lk_lock.proofs.Steps.{after_call, as_before}
+use Rattle.lk_domain.proofs.seats.Places.{carried_same}
+use Rattle.lk_pvdomain.specs.PvCalls.{MayFree, without}
+use Rattle.lk_pvdomain.specs.PvPaths.{Ended, Rests, Took, first_node, first_of}
+use Rattle.lk_pvdomain.proofs.ways.Frees.{IsLet, freed_none, freed_others, is_let, is_taken}
+use Rattle.lk_lock.specs.Standing.{FreesLock, IsHolding, IsReady, TakesLock, holds_of}
+use Rattle.lk_lock.specs.Turns.{FreesBy, HasLocked, PathBy}
+use Rattle.lk_lock.proofs.Marks.{left_without}
+use Rattle.lk_lock.proofs.Steps.{after_call, as_before, is_held, locked_last, none_out}
 
-pub pv_same : (old new : PvCpu) → seats.IsSame old new → IsSame (cpu.Halting old) (cpu.Halting new)
-pv_same old new is =
-    record { one = record { table = is.table; id = is.id; number = is.number; family = refl }; who = is.who }
-
-module _ (d : PvDomain) (old : PvCpu) (was : IsReady (domain.Halting d) (cpu.Halting old)) where
-  pub pv_is_of : seats.IsOf old d
-  pv_is_of = record { table = was.table; plan = was.plan; low = was.low }
-
-  pub is_resting : IsResting (seats.calls_of old)
-  is_resting = was.rests d.halting
-
-  after : (mid : PvCpu) → seats.IsSame old mid → IsResting (seats.calls_of mid)
-      → (seats.ledger_of mid).out ≡ (seats.ledger_of old).out → IsReady (domain.Halting d) (cpu.Halting mid)
-  after mid same rests home =
-      after_call (domain.Halting d) (cpu.Halting old) (cpu.Halting mid) was (pv_same old mid same) rests.frames (λ on. rests) home
-
-  -- the lock is taken, missed, or freed
-
-  pub pv_locked : (l : ℕ) (v : Verb) (mid : PvCpu) → seats.IsSame old mid → HasTakenBy v d l old mid
-      → IsReady (domain.Halting d) (cpu.Halting mid)
-  pv_locked l v mid same taken =
-      after mid same taken.rests
-      (ap (λ (g : Ledger). g.out) taken.took.ledger ∙ turned_out (seats.ledger_of old) (lock_name l) Spins (seats.calls_of mid).last)
-
-  pub pv_passed_by : (l : ℕ) (mid : PvCpu) → seats.IsSame old mid → HasMissed d l old mid
-      → IsReady (domain.Halting d) (cpu.Halting mid)
-  pv_passed_by l mid same miss = after mid same miss.rests (ap (λ (g : Ledger). g.out) miss.missed.ledger)
-
-  pub pv_freed : (l : ℕ) (mid : PvCpu) → seats.IsSame old mid → HasFreed d l old mid
-      → IsReady (domain.Halting d) (cpu.Halting mid)
-  pv_freed l mid same free =
-      after mid same free.rests
-      (ap (λ (g : Ledger). g.out) free.ended.ledger ∙ out_freed (seats.ledger_of old) l (seats.calls_of mid).last)
-
-  -- what the call has done
-
-  pub pv_has_locked : (l : ℕ) (v : Verb) (mid : PvCpu) → ((hs : List Hold) → holds_begun v 0 l hs ≡ hs)
-      → HasTakenBy v d l old mid
-      → HasLocked (terms_of d.domain.plan) old.number v l (seats.calls_of old) (seats.calls_of mid)
-  pv_has_locked l v mid begins taken =
-      let t = terms_of d.domain.plan in
+module _ (d : Domain) (old : Cpu) (was : IsReady d old) (on : halts d.plan.mode ≡ true) where
+  -- the processor, as the calls ask for it
+  pub rests : Rests d (first_node old.number) old.seat
+  rests =
+      let r = was.rests on in
       record {
-        path = subst (λ (b : Bool). PathBy b t old.number (begun t.mode 0 v l) (seats.calls_of mid).last (Takes Spins))
-            (sym d.halting) taken.took.path;
-        frames = taken.rests.frames ∙ sym was.frames;
-        holds = taken.took.holds ∙ ap (λ (hs : List Hold). hold 0 (lock_name l) Spins (seats.calls_of mid).taken ∷ hs) (begins (seats.calls_of old).holds);
-        once = taken.took.taken;
+        of = record {
+          table_is = was.domain_is.table;
+          plan = was.domain_is.plan;
+          halting = on;
+          number = old.numbered;
+          near = record { cpu = was.domain_is.low; index = omega arith };
+          index = refl;
+        };
+        frames = r.frames;
+        awake = r.awake;
+        fresh = r.fresh;
       }
 
-  pub pv_has_passed : (l : ℕ) (mid : PvCpu) → HasMissed d l old mid
-      → HasPassed (terms_of d.domain.plan) old.number l (seats.calls_of old) (seats.calls_of mid)
-  pv_has_passed l mid miss =
-      let t = terms_of d.domain.plan in
+  pub may_free : (l : ℕ) (before : Cpu) → l < locks_of d.plan → IsHolding l Spins before old
+      → MayFree d l (first_node old.number) old.seat
+  may_free l before low has =
       record {
-        path = subst (λ (b : Bool). PathBy b t old.number (begun t.mode 0 Try l) (seats.calls_of mid).last Unchanged)
-            (sym d.halting) miss.missed.path;
-        frames = miss.rests.frames ∙ sym was.frames;
-        holds = miss.missed.holds;
-        taken = miss.missed.taken;
+        rests = rests;
+        low = low;
+        held = is_held l Spins before old has;
+        home = λ first. was.home;
+        value = none_out l Spins before old has;
       }
 
-  pub pv_has_unlocked : (l : ℕ) (mid : PvCpu) → HasFreed d l old mid
-      → HasUnlocked (terms_of d.domain.plan) old.number l (seats.calls_of old) (seats.calls_of mid)
-  pv_has_unlocked l mid free =
-      record {
-        way = subst (λ (b : Bool). FreesBy b (terms_of d.domain.plan) old.number l (seats.calls_of mid).last) (sym d.halting)
-            free.ended.path;
-        frames = free.rests.frames ∙ sym was.frames;
-        none = free.none;
-        taken = free.ended.taken;
-      }
+  -- where a call is over the seat is still that of its processor
+  module _ (seat : Seat Slot View) (let_it : IsLet old.seat seat) where
+    pub numbered : seat.me.0.who.number ≡ Some old.number
+    numbered = ap (λ (w : Who). w.number) let_it.who ∙ old.numbered
 
--- once the lock is freed the processor is as it was
-pub pv_freed_before : (l : ℕ) (m : Manner) (before : AnyCpu) (now new : PvCpu) → IsHolding l m before (cpu.Halting now)
-    → seats.IsSame now new → (seats.calls_of new).holds ≡ without (lock_name l) (seats.calls_of now).holds
-    → IsAsBefore before (cpu.Halting new)
-pv_freed_before l m before now new has is holds =
-    as_before l m before (cpu.Halting now) has (cpu.Halting new) (λ hs. without (lock_name l) hs) (pv_same now new is) holds
-    (left_without l has.nth m _ has.fresh)
+    pub carried : seat.me.1 ≡ carried_of seat.me.0
+    carried = let_it.slots ∙ (old.carried ∙ carried_same old.seat.me.0 seat.me.0 let_it.who let_it.out)
 
--- the view of a seat whose value goes out, or comes home, by its home
+    -- it keeps no notes
+    pub unnoted : halts seat.me.0.who.plan.mode ≡ false → ⊥
+    unnoted off =
+        let no : true ≡ false = sym on ∙ (sym (ap (λ (w : Who). halts w.plan.mode) let_it.who ∙ ap (λ (k : Plan). halts k.mode) was.domain_is.plan) ∙ off) in
+        cc no
 
-pub own_taking : (k : Plan) (l : ℕ) (old new : View) → l < locks_of k → new ≡ taking (lock_of k l) l old → new ≡ taking l l old
-own_taking k l old new low is = is ∙ ap (λ (x : ℕ). taking x l old) (own_lock k l low)
+  -- what it is as a whole
+  module _ (mid : Cpu) (number : mid.number ≡ old.number) where
+    same : IsLet old.seat mid.seat → IsSame old mid
+    same let_it = record { table = let_it.table_was; id = let_it.id_was; number = number; who = let_it.who }
 
-pub own_bringing : (k : Plan) (l : ℕ) (old new : View) → l < locks_of k → new ≡ bringing (lock_of k l) old → new ≡ bringing l old
-own_bringing k l old new low is = is ∙ ap (λ (x : ℕ). bringing x old) (own_lock k l low)
+    ready : IsLet old.seat mid.seat → IsReady d mid
+    ready let_it =
+        after_call d old mid was (same let_it) let_it.frames
+        (λ _. record { frames = let_it.frames; awake = let_it.awake; fresh = let_it.fresh }) let_it.out
+
+    -- a lock is taken
+    pub pv_takes : (l : ℕ) (v : Verb) → ((hs : List Hold) → holds_begun v 0 l hs ≡ hs) → holds_in (holds_of old) l ≡ false
+        → Took d v l (first_node old.number) (first_of v l old.seat) mid.seat → TakesLock d v l old mid
+    pv_takes l v begins free took =
+        let t = terms_of d.plan in
+        let let_it = is_taken d v l (first_node old.number) old.seat mid.seat took in
+        let path : HasLocked t old.number v l (calls_of old) (calls_of mid) = record {
+          path = subst (λ (b : Bool). PathBy b t old.number (begun t.mode 0 v l) (calls_of mid).last (Takes Spins)) (sym on) took.path;
+          frames = let_it.frames ∙ sym was.frames;
+          holds = took.holds ∙ ap (λ (hs : List Hold). hold 0 (lock_name l) Spins (calls_of mid).taken ∷ hs) (begins (holds_of old));
+          once = took.taken;
+        } in
+        record {
+          ready = ready let_it;
+          holding = locked_last t old.number v l old mid (same let_it) path free;
+          path = path;
+        }
+
+    -- it is freed
+    pub pv_frees : (l : ℕ) → Ended d Unlock l (first_node old.number) (first_of Unlock l old.seat) Frees mid.seat
+        → FreesLock d l old mid
+    pv_frees l free =
+        let t = terms_of d.plan in
+        let let_it = is_let d l (first_node old.number) old.seat mid.seat free in
+        record {
+          ready = ready let_it;
+          before = λ b has.
+              as_before l Spins b old has mid (λ hs. without (lock_name l) hs) (same let_it)
+              (freed_others d l (first_node old.number) old.seat mid.seat free) (left_without l has.nth Spins _ has.fresh);
+          freed = record {
+            way = subst (λ (b : Bool). FreesBy b t old.number l (calls_of mid).last) (sym on) free.path;
+            frames = let_it.frames ∙ sym was.frames;
+            none = freed_none d l (first_node old.number) old.seat mid.seat free;
+            taken = free.taken;
+          };
+        }

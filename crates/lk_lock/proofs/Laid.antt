@@ -7,7 +7,7 @@ use Rattle.lk_abs.specs.ListOf.{ListOf}
 use Rattle.lk_abs.specs.declared.names.Kind.TheVariants.{Rw}
 use Rattle.lk_cell.specs.Latched.{IsKey}
 use Rattle.lk_cell.specs.declared.cell.KeyCell.{KeyCell}
-use Rattle.lk_domain.specs.Plans.{cpus_of, locks_of}
+use Rattle.lk_domain.specs.Plans.{locks_of}
 use Rattle.lk_domain.specs.Values.{AreShut, Key, cell_of}
 use Rattle.lk_domain.specs.declared.plan.Plan.{Plan}
 use Rattle.lk_lock.specs.Cells.{AllShut, AreKeysOf, EachShut, all_behind, behind, firsts, laid, later, names_of}
@@ -38,15 +38,6 @@ are_shut (c ∷ cells) [] fit h key e = absurd fit
 are_shut (c ∷ cells) (x ∷ keys) fit zero key e =
     subst (λ (y : Key). y.views ≡ false ∷ []) (ap (λ (o : Option Key). unwrap_or o x) e) fit.0.1
 are_shut (c ∷ cells) (x ∷ keys) fit (suc h) key e = are_shut cells keys fit.1 h key e
-
--- with those of one more lock
-pub still_shut : (all : List (ListOf Key)) (keys : ListOf Key) → AllShut all → EachShut keys.items
-    → AllShut (all ++ keys ∷ [])
-still_shut [] keys were are zero ks e =
-    subst (λ (xs : ListOf Key). EachShut xs.items) (ap (λ (o : Option (ListOf Key)). unwrap_or o keys) e) are
-still_shut [] keys were are (suc l) ks e = absurd (let z : ⊥ = cc e in z)
-still_shut (x ∷ all) keys were are zero ks e = were zero ks e
-still_shut (x ∷ all) keys were are (suc l) ks e = still_shut all keys (λ n. were (suc n)) are l ks e
 
 -- so are those that are left, and those that are laid out
 
@@ -181,11 +172,6 @@ some_at : {A : Type 0} (xs : List A) (i : ℕ) → i < length xs → (x : A) × 
 some_at [] i low = absurd (omega (arith, low))
 some_at (x ∷ xs) zero low = (x, refl)
 some_at (x ∷ xs) (suc i) low = some_at xs i (omega (arith, low))
-
-pub copy_cell : (k : Plan) (l : ℕ) (cells : List TableId) (p : ℕ) → IsSharedUnder k l cells → p < cpus_of k
-    → (cell : TableId) × (slice_get cells (1 + p) ≡ Some cell)
-copy_cell k l cells p is low =
-    some_at cells (1 + p) (let many = is.many in omega (arith, low, many))
 
 -- it has its own value as any lock has
 pub own_under : (k : Plan) (l : ℕ) (cells : List TableId) (cell : TableId) → IsSharedUnder k l cells

@@ -6,4 +6,3 @@ pub mod Laid
 pub mod Mades
 pub mod Resting
 pub mod Closings
-pub mod Crossing

@@ -1,7 +1,6 @@
 -- A lock more among those to be made, and all of them in a domain.
-use Rattle.std.proofs.Common.{◌≡◌, ℕ, zero, suc, ◌+◌, ◌*◌, ◌<◌, All, List, [], ◌∷◌, ◌++◌, length, get_or, Option, Some, true, refl, sym, ap, ◌∙◌, subst, arith}
+use Rattle.std.proofs.Common.{◌≡◌, ℕ, ◌+◌, ◌*◌, ◌<◌, List, [], ◌∷◌, ◌++◌, length, Option, Some, true, refl, sym, ap, ◌∙◌, subst}
 use Rattle.std.specs.Prelude.{slice_get}
-use Rattle.std.proofs.lemmas.List.Elements.{All-append}
 use Rattle.std.proofs.lemmas.Option.{slice_get_within, get_or_from_slice_get}
 use Rattle.atomic_table.specs.Seated.{TableId}
 use Rattle.lk_abs.proofs.ByIndex.{get-append_new, get-append_old}
@@ -12,7 +11,7 @@ use Rattle.lk_domain.specs.Plans.{cpus_of, locks_of, kind_at}
 use Rattle.lk_domain.specs.Values.{Key, cell_of, id_of, keys_of}
 use Rattle.lk_domain.specs.declared.plan.Plan.{Plan}
 use Rattle.lk_lock.specs.Cells.{AreKeysOf, laid}
-use Rattle.lk_lock.specs.Made.{AreAmong, AreMade, AreSharedMade, AreSpins, Keeps, KeepsShared}
+use Rattle.lk_lock.specs.Made.{AreAmong, AreMade, AreSharedMade, Keeps, KeepsShared}
 use Rattle.lk_lock.specs.declared.locks.Locks.{Locks}
 use Rattle.lk_lock.proofs.Laid.{key_at, laid_at, none_before}
 
@@ -64,29 +63,6 @@ same_kinds locks k same =
       each = λ l kind is.
           get_or_from_slice_get k.locks.items l kind Spin (ap (λ (xs : List Kind). slice_get xs l) same ∙ is);
     }
-
--- and where all are spinlocks
-
-is_spin : (kinds : List Kind) (l : ℕ) (kind : Kind) → All (λ (x : Kind). x ≡ Spin) kinds → slice_get kinds l ≡ Some kind
-    → Spin ≡ kind
-is_spin kinds l kind all is =
-    sym (all l Spin (slice_get_within kinds l kind is)) ∙ get_or_from_slice_get kinds l kind Spin is
-
-pub spin_kinds : (locks : Locks) (k : Plan) → AreSpins locks → locks_of k ≡ length locks.kinds.items
-    → ((l : ℕ) → kind_at k l ≡ Spin) → HasKinds locks k
-spin_kinds locks k spins many each =
-    record { many = many; each = λ l kind is. each l ∙ is_spin locks.kinds.items l kind spins is }
-
--- one spinlock more
-
-one_spin : (l : ℕ) (d : Kind) → l < 1 → get_or (Spin ∷ []) l d ≡ Spin
-one_spin zero d low = refl
-one_spin (suc l) d low = absurd (omega (arith, low))
-
-pub more_spins : (old new : Locks) → new.kinds.items ≡ old.kinds.items ++ Spin ∷ [] → AreSpins old → AreSpins new
-more_spins old new is spins =
-    subst (All (λ (kind : Kind). kind ≡ Spin)) (sym is)
-    (All-append (λ (kind : Kind). kind ≡ Spin) old.kinds.items (Spin ∷ []) spins one_spin)
 
 -- a domain of these locks has them
 module _ (locks : Locks) (k : Plan) (n : ℕ) (kinds : HasKinds locks k)

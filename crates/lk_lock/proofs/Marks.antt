@@ -1,5 +1,5 @@
 -- A processor takes a lock and its value, and gives both back.
-use Rattle.std.proofs.Common.{◌≡◌, ℕ, ◌<◌, List, [], ◌∷◌, length, Bool, true, false, Some, eqb, eq-eqb, refl, sym, ap, ◌∙◌, inl, inr, arith}
+use Rattle.std.proofs.Common.{◌≡◌, ℕ, List, [], ◌∷◌, Bool, true, false, Some, eqb, eq-eqb, refl, sym, ap, ◌∙◌, inl, inr}
 use Rattle.std.proofs.lemmas.Bool.{cases_Bool}
 use Rattle.std.specs.Prelude.{if◌then◌else◌, ◌&&◌, ◌||◌}
 use Rattle.lk_abs.specs.Names.{same_lock}
@@ -7,23 +7,10 @@ use Rattle.lk_abs.specs.declared.holder.Manner.{Manner}
 use Rattle.lk_abs.specs.declared.names.LockName.{LockName}
 use Rattle.lk_law.proofs.common.Puts.{if-true, if-false}
 use Rattle.lk_law.proofs.common.Sames.{same_lock-self}
-use Rattle.lk_domain.specs.Calls.{Mark, Running, Hold, Calls, Takes, holds_in, waits_in, hold_in, lock_name, moved_to, free_of}
+use Rattle.lk_domain.specs.Calls.{Mark, Hold, Takes, holds_in, hold_in, lock_name, moved_to, free_of}
 use Rattle.lk_domain.specs.Ledgers.{Ledger, turned, opened, is_first}
 use Rattle.lk_domain.specs.Values.{marked_out, out_in}
-use Rattle.lk_domain.specs.Waits.{MayTake}
 use Rattle.lk_pvdomain.specs.PvCalls.{without}
-
--- a call may begin that takes a lock
-pub may_take : (l : ℕ) (c : Calls) → c.frames ≡ [] → holds_in c.holds l ≡ false → MayTake l c
-may_take l c none free =
-    record {
-      few = let z : length c.frames ≡ 0 = ap (λ (rs : List Running). length rs) none in omega (arith, z);
-      free = free;
-      fresh = ap (λ (rs : List Running). waits_in rs l) none;
-    }
-
-pub few_of : (c : Calls) → c.frames ≡ [] → length c.frames < 6
-few_of c none = let z : length c.frames ≡ 0 = ap (λ (rs : List Running). length rs) none in omega (arith, z)
 
 -- a look that begins leaves the journal where it is
 pub turned_out : (g : Ledger) (n : LockName) (m : Manner) (t : List Mark)

@@ -2,61 +2,59 @@
 -- value of the lock out, and home again.
 use Rattle.std.proofs.Common.{◌≡◌, ℕ, ◌+◌, ◌-◌, ◌<◌, List, [], ◌∷◌, ◌++◌, length, true, false, refl, sym, ap, ◌∙◌, subst, Some, arith, length-append}
 use Rattle.lk_abs.specs.declared.holder.Manner.{Manner}
-use Rattle.lk_abs.specs.declared.holder.Manner.TheVariants.{Spins, Writes}
+use Rattle.lk_abs.specs.declared.holder.Manner.TheVariants.{Spins}
 use Rattle.lk_law.specs.Agree.{halts}
 use Rattle.lk_rows.specs.declared.setup.Verb.{Verb}
-use Rattle.lk_rows.specs.declared.setup.Verb.TheVariants.{TryWrite}
 use Rattle.lk_domain.specs.Calls.{Terms, Mark, Running, Hold, hold, Calls, holds_in, hold_in, way_in, lock_name}
-use Rattle.lk_domain.specs.Paths.{HasTaken}
 use Rattle.lk_domain.specs.Plans.{cpus_of}
-use Rattle.lk_domain.specs.Values.{IsClear, IsHomeWith, IsNewestAt, bringing, is_sole, marked_out, older, out_in, outs_of, taking}
+use Rattle.lk_domain.specs.Seats.{BringsValueOf, IsIn, IsSame, IsStill, TakesValueOf, calls_of, ledger_of, view_of}
+use Rattle.lk_domain.specs.Values.{IsClear, IsHomeWith, bringing, is_sole, marked_out, older, out_in, taking}
 use Rattle.lk_domain.specs.Who.{Who}
-use Rattle.lk_domain.specs.declared.plan.Plan.{Plan}
+use Rattle.lk_domain.specs.declared.cpu.Cpu.{Cpu}
+use Rattle.lk_domain.specs.declared.domain.Domain.{Domain}
 use Rattle.lk_domain.specs.declared.view.View.{View}
 use Rattle.lk_pvdomain.specs.PvCalls.{IsResting}
 use Rattle.lk_run.specs.Entering.{HasEntered, HasLeft}
 use Rattle.lk_rows.specs.declared.parts.Pc.{Pc}
-use Rattle.lk_rows.specs.declared.parts.Pc.TheVariants.{Z2}
-use Rattle.lk_lock.specs.Families.{BringsValue, IsOne, IsSame, IsStill, TakesValue, calls_of, holds_of, ledger_of, number_of, plan_of, view_of}
-use Rattle.lk_lock.specs.Standing.{HasBeenIn, HasComeIn, HasWrittenOnce, IsAsBefore, IsHolding, IsInside, IsReady, home_calls}
-use Rattle.lk_lock.specs.Turns.{HasLocked, HasTurned, HasUnlocked}
-use Rattle.lk_lock.specs.declared.family.AnyCpu.{AnyCpu}
-use Rattle.lk_lock.specs.declared.family.AnyCpu.TheVariants as cpu
-use Rattle.lk_lock.specs.declared.family.AnyDomain.{AnyDomain}
+use Rattle.lk_lock.specs.Standing.{HasBeenIn, HasComeIn, IsAsBefore, IsHolding, IsInside, IsReady, holds_of, home_calls}
+use Rattle.lk_lock.specs.Turns.{HasLocked}
 use Rattle.lk_abs.specs.Names.{same_lock}
 use Rattle.lk_law.proofs.common.Puts.{if-true}
 use Rattle.lk_law.proofs.common.Sames.{same_lock-self}
 use Rattle.lk_lock.proofs.Marks.{found, held, marked, out_home}
 
-module _ (d : AnyDomain) (old new : AnyCpu) (was : IsReady d old) where
+module _ (d : Domain) (old new : Cpu) (was : IsReady d old) where
+  -- it is one of the domain
+  one_of : new.seat.table_id ≡ old.seat.table_id → new.number ≡ old.number → (view_of new).who.plan ≡ (view_of old).who.plan
+      → IsIn new d
+  one_of table number plan =
+      record {
+        table = table ∙ was.domain_is.table;
+        plan = plan ∙ was.domain_is.plan;
+        low = subst (λ (n : ℕ). n < cpus_of d.plan) (sym number) was.domain_is.low;
+      }
+
   -- after a call
   pub after_call : IsSame old new → (calls_of new).frames ≡ []
-      → (halts (plan_of d).mode ≡ true → IsResting (calls_of new)) → (ledger_of new).out ≡ (ledger_of old).out
+      → (halts d.plan.mode ≡ true → IsResting (calls_of new)) → (ledger_of new).out ≡ (ledger_of old).out
       → IsReady d new
   after_call same frames rests home =
       record {
-        table = same.one.table ∙ was.table;
-        plan = ap (λ (w : Who). w.plan) same.who ∙ was.plan;
-        low = subst (λ (n : ℕ). n < cpus_of (plan_of d)) (sym same.one.number) was.low;
-        family = was.family;
-        cpu_family = same.one.family ∙ was.cpu_family;
+        domain_is = one_of same.table same.number (ap (λ (w : Who). w.plan) same.who);
         frames = frames;
         rests = rests;
         home = home ∙ was.home;
       }
 
   -- where it knows the same of all but its holds and the values that are out
-  viewed : IsOne old new → (w : View) → view_of new ≡ w → w.who.plan ≡ (view_of old).who.plan
+  viewed : new.seat.table_id ≡ old.seat.table_id → new.number ≡ old.number
+      → (w : View) → view_of new ≡ w → w.who.plan ≡ (view_of old).who.plan
       → w.calls.frames ≡ (calls_of old).frames → w.calls.halted ≡ (calls_of old).halted
       → w.calls.looked ≡ (calls_of old).looked → w.ledger ≡ ledger_of old → IsReady d new
-  viewed one w is plan frames halted looked ledger =
+  viewed table number w is plan frames halted looked ledger =
       let running : (calls_of new).frames ≡ (calls_of old).frames = ap (λ (v : View). v.calls.frames) is ∙ frames in
       record {
-        table = one.table ∙ was.table;
-        plan = ap (λ (v : View). v.who.plan) is ∙ (plan ∙ was.plan);
-        low = subst (λ (n : ℕ). n < cpus_of (plan_of d)) (sym one.number) was.low;
-        family = was.family;
-        cpu_family = one.family ∙ was.cpu_family;
+        domain_is = one_of table number (ap (λ (v : View). v.who.plan) is ∙ plan);
         frames = running ∙ was.frames;
         rests = λ on.
             let r = was.rests on in
@@ -70,33 +68,18 @@ module _ (d : AnyDomain) (old new : AnyCpu) (was : IsReady d old) where
 
   -- its value goes out, comes home, or is worked on
 
-  pub gone_out : (l : ℕ) → TakesValue l old new → IsReady d new
-  gone_out l out = viewed out.one (taking l l (view_of old)) out.view refl refl refl refl refl
+  pub gone_out : (l : ℕ) → TakesValueOf l old new → IsReady d new
+  gone_out l out = viewed out.table out.number (taking l l (view_of old)) out.view refl refl refl refl refl
 
-  pub come_home : (l : ℕ) → BringsValue l old new → IsReady d new
-  come_home l home = viewed home.one (bringing l (view_of old)) home.view refl refl refl refl refl
-
-  pub still_ready : IsStill old new → IsReady d new
-  still_ready is = viewed is.one (view_of old) is.view refl refl refl refl refl
-
--- its view has its number
-pub numbered : (c : AnyCpu) → (view_of c).who.number ≡ Some (number_of c)
-numbered (cpu.Awake x) = x.numbered
-numbered (cpu.Halting x) = x.numbered
-
--- the same processor, once more
-pub one_more_time : (a b c : AnyCpu) → IsOne a b → IsOne b c → IsOne a c
-one_more_time a b c first second =
-    record {
-      table = second.table ∙ first.table;
-      id = second.id ∙ first.id;
-      number = second.number ∙ first.number;
-      family = second.family ∙ first.family;
-    }
-
-pub still_once_more : (first old new : AnyCpu) → IsStill first old → IsStill old new → IsStill first new
+-- what was as before is so still
+pub still_once_more : (first old new : Cpu) → IsStill first old → IsStill old new → IsStill first new
 still_once_more first old new was is =
-    record { one = one_more_time first old new was.one is.one; view = is.view ∙ was.view }
+    record {
+      table = is.table ∙ was.table;
+      id = is.id ∙ was.id;
+      number = is.number ∙ was.number;
+      view = is.view ∙ was.view;
+    }
 
 -- the newest hold, of a call that no other is below
 pub newest : (l n : ℕ) (m : Manner) (old : Calls) (hs : List Hold) → old.frames ≡ []
@@ -105,17 +88,17 @@ newest l n m old hs none is =
     is ∙ ap (λ (rs : List Running). hold (length rs) (lock_name l) m n ∷ old.holds) none
 
 -- it has taken the lock last
-pub holding : (l n : ℕ) (m : Manner) (old mid : AnyCpu) → IsSame old mid
+pub holding : (l n : ℕ) (m : Manner) (old mid : Cpu) → IsSame old mid
     → holds_of mid ≡ hold 0 (lock_name l) m n ∷ holds_of old → holds_in (holds_of old) l ≡ false
     → IsHolding l m old mid
 holding l n m old mid same is free = record { same = same; nth = n; holds = is; fresh = free }
 
 -- a spinlock
-pub locked_last : (t : Terms) (p : ℕ) (v : Verb) (l : ℕ) (old mid : AnyCpu) → IsSame old mid
+pub locked_last : (t : Terms) (p : ℕ) (v : Verb) (l : ℕ) (old mid : Cpu) → IsSame old mid
     → HasLocked t p v l (calls_of old) (calls_of mid) → holds_in (holds_of old) l ≡ false → IsHolding l Spins old mid
 locked_last t p v l old mid same taken free = holding l (calls_of mid).taken Spins old mid same taken.holds free
 
-module _ (l : ℕ) (m : Manner) (before now : AnyCpu) (has : IsHolding l m before now) where
+module _ (l : ℕ) (m : Manner) (before now : Cpu) (has : IsHolding l m before now) where
   -- its value is home
   pub found_home : hold_in (holds_of now) l ≡ Some (m, false)
   found_home = ap (λ (xs : List Hold). hold_in xs l) has.holds ∙ found l has.nth m false (holds_of before)
@@ -136,11 +119,13 @@ module _ (l : ℕ) (m : Manner) (before now : AnyCpu) (has : IsHolding l m befor
       ∙ if-true (same_lock (lock_name l) (lock_name l)) (Some m) (way_in (holds_of before) l) (same_lock-self (lock_name l))
 
   -- and stays so while the processor works on a value
-  pub still_holding : (new : AnyCpu) → IsStill now new → IsHolding l m before new
+  pub still_holding : (new : Cpu) → IsStill now new → IsHolding l m before new
   still_holding new is =
       record {
         same = record {
-          one = one_more_time before now new has.same.one is.one;
+          table = is.table ∙ has.same.table;
+          id = is.id ∙ has.same.id;
+          number = is.number ∙ has.same.number;
           who = ap (λ (v : View). v.who) is.view ∙ has.same.who;
         };
         nth = has.nth;
@@ -149,19 +134,26 @@ module _ (l : ℕ) (m : Manner) (before now : AnyCpu) (has : IsHolding l m befor
       }
 
   -- once it is freed the processor is as it was
-  pub as_before : (new : AnyCpu) (left : List Hold → List Hold) → IsSame now new → holds_of new ≡ left (holds_of now)
+  pub as_before : (new : Cpu) (left : List Hold → List Hold) → IsSame now new → holds_of new ≡ left (holds_of now)
       → left (hold 0 (lock_name l) m has.nth ∷ holds_of before) ≡ holds_of before → IsAsBefore before new
   as_before new left same is dropped =
       record {
-        same = record { one = one_more_time before now new has.same.one same.one; who = same.who ∙ has.same.who };
+        same = record {
+          table = same.table ∙ has.same.table;
+          id = same.id ∙ has.same.id;
+          number = same.number ∙ has.same.number;
+          who = same.who ∙ has.same.who;
+        };
         holds = is ∙ (ap left has.holds ∙ dropped);
       }
 
   -- its value goes out
-  pub inside : (new : AnyCpu) → TakesValue l now new → IsInside l m before new
+  pub inside : (new : Cpu) → TakesValueOf l now new → IsInside l m before new
   inside new out =
       record {
-        one = one_more_time before now new has.same.one out.one;
+        table = out.table ∙ has.same.table;
+        id = out.id ∙ has.same.id;
+        number = out.number ∙ has.same.number;
         who = ap (λ (v : View). v.who) out.view
             ∙ ap (λ (w : Who). let r : Who = record w { outs = l ∷ w.outs } in r) has.same.who;
         nth = has.nth;
@@ -172,7 +164,7 @@ module _ (l : ℕ) (m : Manner) (before now : AnyCpu) (has : IsHolding l m befor
       }
 
   -- and the calls are what they were as soon as it is home again
-  pub home_again : (new : AnyCpu) → TakesValue l now new → home_calls l new ≡ calls_of now
+  pub home_again : (new : Cpu) → TakesValueOf l now new → home_calls l new ≡ calls_of now
   home_again new out =
       ap (λ (v : View). (bringing l v).calls) out.view
       ∙ ap (λ (xs : List Hold). let c : Calls = record (calls_of now) { holds = xs } in c)
@@ -180,23 +172,15 @@ module _ (l : ℕ) (m : Manner) (before now : AnyCpu) (has : IsHolding l m befor
       ∙ (ap (λ (xs : List Hold). marked_out l false xs) (marked l has.nth m false true (holds_of before))
       ∙ (marked l has.nth m true false (holds_of before) ∙ sym has.holds)))
 
-module _ (l : ℕ) (m : Manner) (before old : AnyCpu) (in_it : IsInside l m before old) where
-  -- its value is the newest that is out
-  pub newest_out : (k : Plan) → (view_of old).who.plan ≡ k → IsNewestAt k l l (outs_of (view_of old))
-  newest_out k same =
-      record {
-        others = outs_of (view_of before);
-        is = ap (λ (w : Who). w.outs) in_it.who;
-        apart = subst (λ (j : Plan). IsClear j l (outs_of (view_of before)))
-            (sym (ap (λ (w : Who). w.plan) in_it.who) ∙ same) in_it.apart;
-      }
-
+module _ (l : ℕ) (m : Manner) (before old : Cpu) (in_it : IsInside l m before old) where
   -- and once it is home the lock is held as before
-  pub came_home : (mid : AnyCpu) → BringsValue l old mid → IsHolding l m before mid
+  pub came_home : (mid : Cpu) → BringsValueOf l old mid → IsHolding l m before mid
   came_home mid home =
       record {
         same = record {
-          one = one_more_time before old mid in_it.one home.one;
+          table = home.table ∙ in_it.table;
+          id = home.id ∙ in_it.id;
+          number = home.number ∙ in_it.number;
           who = ap (λ (v : View). v.who) home.view
               ∙ ap (λ (w : Who). let r : Who = record w { outs = older w.outs } in r) in_it.who;
         };
@@ -208,10 +192,12 @@ module _ (l : ℕ) (m : Manner) (before old : AnyCpu) (in_it : IsInside l m befo
       }
 
   -- what is inside stays so, while other locks are taken and freed
-  pub still_inside : (new : AnyCpu) → IsAsBefore old new → IsInside l m before new
+  pub still_inside : (new : Cpu) → IsAsBefore old new → IsInside l m before new
   still_inside new kept =
       record {
-        one = one_more_time before old new in_it.one kept.same.one;
+        table = kept.same.table ∙ in_it.table;
+        id = kept.same.id ∙ in_it.id;
+        number = kept.same.number ∙ in_it.number;
         who = kept.same.who ∙ in_it.who;
         nth = in_it.nth;
         holds = kept.holds ∙ in_it.holds;
@@ -227,36 +213,9 @@ rows_behind upto behind last is =
 
 -- What was done by who took a lock by a path of its rows, worked on its value, and freed it.
 
-pub gone_in : (t : Terms) (p : ℕ) (v : Verb) (l : ℕ) (old mid : Calls) (new : AnyCpu) → home_calls l new ≡ mid
+pub gone_in : (t : Terms) (p : ℕ) (v : Verb) (l : ℕ) (old mid : Calls) (new : Cpu) → home_calls l new ≡ mid
     → HasLocked t p v l old mid → HasLocked t p v l old (home_calls l new)
 gone_in t p v l old mid new is taken = subst (λ (x : Calls). HasLocked t p v l old x) (sym is) taken
-
-pub freed_home : (t : Terms) (l : ℕ) (old mid : AnyCpu) (new : Calls) → BringsValue l old mid
-    → HasUnlocked t (number_of mid) l (calls_of mid) new → HasUnlocked t (number_of old) l (home_calls l old) new
-freed_home t l old mid new home free =
-    subst (λ (p : ℕ). HasUnlocked t p l (home_calls l old) new) home.one.number
-    (subst (λ (v : View). HasUnlocked t (number_of mid) l v.calls new) home.view free)
-
-pub has_turned : (t : Terms) (p q : ℕ) (v : Verb) (l : ℕ) (old : Calls) (mid now : AnyCpu) (new : Calls) → IsStill mid now
-    → q ≡ p → HasLocked t p v l old (calls_of mid) → HasUnlocked t q l (calls_of now) new → HasTurned t p v l old new
-has_turned t p q v l old mid now new is same taken free =
-    record {
-      inside = calls_of mid;
-      taken = taken;
-      freed = subst (λ (n : ℕ). HasUnlocked t n l (calls_of mid) new) same
-          (subst (λ (w : View). HasUnlocked t q l w.calls new) is.view free);
-    }
-
-pub written_once : (t : Terms) (p l : ℕ) (old : Calls) (mid now : AnyCpu) (new : Calls) → IsStill mid now
-    → HasTaken t p TryWrite l Writes old (calls_of mid) → (calls_of mid).taken ≡ old.taken + 1
-    → HasLeft Z2 l (calls_of now) new → HasWrittenOnce t p l old new
-written_once t p l old mid now new is taken once left =
-    record {
-      inside = calls_of mid;
-      taken = taken;
-      once = once;
-      left = subst (λ (w : View). HasLeft Z2 l w.calls new) is.view left;
-    }
 
 pub come_in : (t : Terms) (p q : ℕ) (v : Verb) (l : ℕ) (m : Manner) (upto : List Mark) (old new : Calls) → q ≡ p
     → HasEntered t q v l m upto old new → new.taken ≡ old.taken + (1 + (length new.last - length upto))
@@ -269,7 +228,7 @@ come_in t p q v l m upto old new same has once =
       once = once ∙ ap (λ (n : ℕ). old.taken + (1 + n)) (rows_behind upto has.behind new.last has.last);
     })
 
-pub been_in : (t : Terms) (p : ℕ) (v : Verb) (l : ℕ) (m : Manner) (a : Pc) (old : Calls) (mid now : AnyCpu) (new : Calls)
+pub been_in : (t : Terms) (p : ℕ) (v : Verb) (l : ℕ) (m : Manner) (a : Pc) (old : Calls) (mid now : Cpu) (new : Calls)
     → IsStill mid now → HasComeIn t p v l m old (calls_of mid) → HasLeft a l (calls_of now) new
     → HasBeenIn t p v l m a old new
 been_in t p v l m a old mid now new is entered left =

@@ -1,4 +1,3 @@
-pub mod Families
 pub mod Turns
 pub mod Standing
 pub mod Cells

@@ -1,5 +1,5 @@
 -- The locks that are to be made, and those of a domain.
-use Rattle.std.specs.Prelude.{◌≡◌, ℕ, ◌+◌, All, Some, List, [], ◌∷◌, length, slice_get, true, replicate, if◌then◌else◌}
+use Rattle.std.specs.Prelude.{◌≡◌, ℕ, ◌+◌, All, Some, List, [], ◌∷◌, length, slice_get, true, if◌then◌else◌}
 use Rattle.lk_law.specs.Agree.{halts}
 use Rattle.atomic_table.specs.Seated.{TableId}
 use Rattle.lk_abs.specs.ListOf.{ListOf}
@@ -51,21 +51,16 @@ AreMade locks k = (kind : Kind) (l : ℕ) (cell : TableId) → IsAmong locks kin
 abbrev pub AreSharedMade : Locks → Plan → Type 0
 AreSharedMade locks k = (l : ℕ) (cells : List TableId) → IsSharedAmong locks l cells → IsSharedUnder k l cells
 
--- Where waiters halt, all processors are on socket 0, and the bound of the plan is that on the turns for which
--- one spins. In the other families it is 16, and each processor is on the socket that is listed for it.
-
+-- The bound of a plan: where waiters halt that on the turns for which one spins, and in the other families 16.
 abbrev pub bound_in : Mode → ℕ → ℕ
 bound_in family turns = if halts family then turns else 16
-
-abbrev pub places_in : Mode → List ℕ → List ℕ
-places_in family places = if halts family then replicate (length places) 0 else places
 
 -- The plan is what was asked for: it has these locks and no others, of this family and in format one, with
 -- these sockets and turns. There is no ledger.
 pub record IsPlanFor (locks : Locks) (family : Mode) (places : List ℕ) (turns : ℕ) (k : Plan) : Type 0 where
   pub format : k.format ≡ One
   pub mode : k.mode ≡ family
-  pub sockets : k.topology.sockets.items ≡ places_in family places
+  pub sockets : k.topology.sockets.items ≡ places
   pub threshold : k.threshold ≡ bound_in family turns
   pub many : locks_of k ≡ length locks.kinds.items
   pub accounts : accounts_of k ≡ 0

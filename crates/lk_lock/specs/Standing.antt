@@ -12,42 +12,41 @@ use Rattle.lk_rows.specs.declared.setup.Verb.{Verb}
 use Rattle.lk_rows.specs.declared.setup.Verb.TheVariants.{TryWrite}
 use Rattle.lk_rows.specs.declared.parts.Pc.{Pc}
 use Rattle.lk_rows.specs.declared.parts.Pc.TheVariants.{Z1, Z2}
-use Rattle.lk_domain.specs.Calls.{Terms, Mark, Hold, hold, Calls, holds_in, lock_name}
+use Rattle.lk_domain.specs.Calls.{Terms, Mark, Hold, hold, Calls, holds_in, lock_name, terms_of}
 use Rattle.lk_domain.specs.Paths.{HasMissed, HasTaken}
 use Rattle.lk_domain.specs.Plans.{cpus_of, locks_of, kind_at}
+use Rattle.lk_domain.specs.Seats.{IsIn, IsSame, calls_of, ledger_of, view_of}
 use Rattle.lk_domain.specs.Values.{IsClear, bringing, cell_of, outs_of}
 use Rattle.lk_domain.specs.Views.{newcomer}
+use Rattle.lk_domain.specs.declared.cpu.Cpu.{Cpu}
+use Rattle.lk_domain.specs.declared.domain.Domain.{Domain}
 use Rattle.lk_domain.specs.declared.plan.Plan.{Plan}
 use Rattle.lk_pvdomain.specs.PvCalls.{IsResting}
 use Rattle.lk_run.specs.Entering.{HasEntered, HasLeft}
-use Rattle.lk_lock.specs.Families.{IsOne, IsSame, calls_of, halts_in, holds_of, ledger_of, may_halt, number_of}
-use Rattle.lk_lock.specs.Families.{plan_of, seat_of, table_of, terms_in, view_of}
 use Rattle.lk_lock.specs.Turns.{HasLocked, HasPassed, HasUnlocked}
-use Rattle.lk_lock.specs.declared.family.AnyCpu.{AnyCpu}
-use Rattle.lk_lock.specs.declared.family.AnyDomain.{AnyDomain}
+
+-- the locks that a processor holds
+abbrev pub holds_of : Cpu → List Hold
+holds_of cpu = (calls_of cpu).holds
 
 -- The processor is one of the domain, in no call, and the journal of the ledger is not out with it. Where
 -- processors halt it has not halted.
-pub record IsReady (domain : AnyDomain) (cpu : AnyCpu) : Type 0 where
-  pub table : (seat_of cpu).table_id ≡ table_of domain
-  pub plan : (view_of cpu).who.plan ≡ plan_of domain
-  pub low : number_of cpu < cpus_of (plan_of domain)
-  pub family : halts_in domain ≡ halts (plan_of domain).mode
-  pub cpu_family : may_halt cpu ≡ halts (plan_of domain).mode
+pub record IsReady (domain : Domain) (cpu : Cpu) : Type 0 where
+  pub domain_is : IsIn cpu domain
   pub frames : (calls_of cpu).frames ≡ []
-  pub rests : halts (plan_of domain).mode ≡ true → IsResting (calls_of cpu)
+  pub rests : halts domain.plan.mode ≡ true → IsResting (calls_of cpu)
   pub home : (ledger_of cpu).out ≡ None
 
 -- the processor i of the domain is ready, and holds nothing
-pub record Rests (domain : AnyDomain) (i : ℕ) (cpu : AnyCpu) : Type 0 where
+pub record Rests (domain : Domain) (i : ℕ) (cpu : Cpu) : Type 0 where
   pub ready : IsReady domain cpu
-  pub number : number_of cpu ≡ i
-  pub who : (view_of cpu).who ≡ newcomer (plan_of domain) i
+  pub number : cpu.number ≡ i
+  pub who : (view_of cpu).who ≡ newcomer domain.plan i
   pub holds : holds_of cpu ≡ []
 
 -- processors that do so, in order of their numbers
-abbrev pub AllRest : AnyDomain → List AnyCpu → Type 0
-AllRest domain cpus = (i : ℕ) (d : AnyCpu) → i < length cpus → Rests domain i (slice_index_or cpus i d)
+abbrev pub AllRest : Domain → List Cpu → Type 0
+AllRest domain cpus = (i : ℕ) (d : Cpu) → i < length cpus → Rests domain i (slice_index_or cpus i d)
 
 -- the lock of this number is of this kind, and its value lies in the cell of this name
 pub record IsUnder (k : Plan) (kind : Kind) (l : ℕ) (cell : TableId) : Type 0 where
@@ -70,7 +69,7 @@ pub record IsSharedUnder (k : Plan) (l : ℕ) (cells : List TableId) : Type 0 wh
       → cell_of k (h * locks_of k + l) ≡ Some cell
 
 -- The processor is the one that it was: it holds what it held, and has the values out that it had.
-pub record IsAsBefore (before now : AnyCpu) : Type 0 where
+pub record IsAsBefore (before now : Cpu) : Type 0 where
   pub same : IsSame before now
   pub holds : holds_of now ≡ holds_of before
 
@@ -79,15 +78,17 @@ abbrev pub out_with : ℕ → Manner → ℕ → Hold
 out_with l m n = record { ctx = 0; lock = lock_name l; manner = m; nth = n; out = true }
 
 -- It holds one lock more than before, in this manner, and no value of that lock is out.
-pub record IsHolding (l : ℕ) (m : Manner) (before now : AnyCpu) : Type 0 where
+pub record IsHolding (l : ℕ) (m : Manner) (before now : Cpu) : Type 0 where
   pub same : IsSame before now
   pub nth : ℕ
   pub holds : holds_of now ≡ hold 0 (lock_name l) m nth ∷ holds_of before
   pub fresh : holds_in (holds_of before) l ≡ false
 
 -- It holds one lock more than before, in this manner, and has its own value out.
-pub record IsInside (l : ℕ) (m : Manner) (before now : AnyCpu) : Type 0 where
-  pub one : IsOne before now
+pub record IsInside (l : ℕ) (m : Manner) (before now : Cpu) : Type 0 where
+  pub table : now.seat.table_id ≡ before.seat.table_id
+  pub id : now.seat.id ≡ before.seat.id
+  pub number : now.number ≡ before.number
   pub who : (view_of now).who ≡ record (view_of before).who { outs = l ∷ outs_of (view_of before) }
   pub nth : ℕ
   pub holds : holds_of now ≡ out_with l m nth ∷ holds_of before
@@ -95,29 +96,29 @@ pub record IsInside (l : ℕ) (m : Manner) (before now : AnyCpu) : Type 0 where
   pub apart : IsClear (view_of before).who.plan l (outs_of (view_of before))
 
 -- A call v has taken the spinlock, by a path of its rows, and no other.
-pub record TakesLock (domain : AnyDomain) (v : Verb) (l : ℕ) (old new : AnyCpu) : Type 0 where
+pub record TakesLock (domain : Domain) (v : Verb) (l : ℕ) (old new : Cpu) : Type 0 where
   pub ready : IsReady domain new
   pub holding : IsHolding l Spins old new
-  pub path : HasLocked (terms_in domain) (number_of old) v l (calls_of old) (calls_of new)
+  pub path : HasLocked (terms_of domain.plan) old.number v l (calls_of old) (calls_of new)
 
 -- A try has missed it.
-pub record MissesLock (domain : AnyDomain) (l : ℕ) (old new : AnyCpu) : Type 0 where
+pub record MissesLock (domain : Domain) (l : ℕ) (old new : Cpu) : Type 0 where
   pub ready : IsReady domain new
   pub before : IsAsBefore old new
-  pub missed : HasPassed (terms_in domain) (number_of old) l (calls_of old) (calls_of new)
+  pub missed : HasPassed (terms_of domain.plan) old.number l (calls_of old) (calls_of new)
 
 -- It was freed, which had been taken last.
-pub record FreesLock (domain : AnyDomain) (l : ℕ) (old new : AnyCpu) : Type 0 where
+pub record FreesLock (domain : Domain) (l : ℕ) (old new : Cpu) : Type 0 where
   pub ready : IsReady domain new
-  pub before : (before : AnyCpu) → IsHolding l Spins before old → IsAsBefore before new
-  pub freed : HasUnlocked (terms_in domain) (number_of old) l (calls_of old) (calls_of new)
+  pub before : (before : Cpu) → IsHolding l Spins before old → IsAsBefore before new
+  pub freed : HasUnlocked (terms_of domain.plan) old.number l (calls_of old) (calls_of new)
 
 -- what the calls of the processor are as soon as the value of the lock, which is out, is home
-abbrev pub home_calls : ℕ → AnyCpu → Calls
+abbrev pub home_calls : ℕ → Cpu → Calls
 home_calls l cpu = (bringing l (view_of cpu)).calls
 
 -- The call v has taken the spinlock by a path of its rows, and no other lock; and then the value went out.
-abbrev pub HasGoneIn : Terms → ℕ → Verb → ℕ → Calls → AnyCpu → Type 0
+abbrev pub HasGoneIn : Terms → ℕ → Verb → ℕ → Calls → Cpu → Type 0
 HasGoneIn t p v l old new = HasLocked t p v l old (home_calls l new)
 
 -- The call v has taken a reader-writer lock in this manner by a path of its rows, and no other lock but its
@@ -153,25 +154,25 @@ HasRead t p v l old new = HasBeenIn t p v l Reads Z1 old new
 -- A call v has come into a reader-writer lock, in this manner; its writer has at one try, or has missed it; and
 -- it has left by this row the lock that was taken last.
 
-pub record EntersLock (domain : AnyDomain) (v : Verb) (l : ℕ) (m : Manner) (old new : AnyCpu) : Type 0 where
+pub record EntersLock (domain : Domain) (v : Verb) (l : ℕ) (m : Manner) (old new : Cpu) : Type 0 where
   pub ready : IsReady domain new
   pub holding : IsHolding l m old new
-  pub path : HasComeIn (terms_in domain) (number_of old) v l m (calls_of old) (calls_of new)
+  pub path : HasComeIn (terms_of domain.plan) old.number v l m (calls_of old) (calls_of new)
 
-pub record EntersOnce (domain : AnyDomain) (l : ℕ) (old new : AnyCpu) : Type 0 where
+pub record EntersOnce (domain : Domain) (l : ℕ) (old new : Cpu) : Type 0 where
   pub ready : IsReady domain new
   pub holding : IsHolding l Writes old new
-  pub path : HasTaken (terms_in domain) (number_of old) TryWrite l Writes (calls_of old) (calls_of new)
+  pub path : HasTaken (terms_of domain.plan) old.number TryWrite l Writes (calls_of old) (calls_of new)
   pub once : (calls_of new).taken ≡ (calls_of old).taken + 1
 
-pub record StaysOut (domain : AnyDomain) (l : ℕ) (old new : AnyCpu) : Type 0 where
+pub record StaysOut (domain : Domain) (l : ℕ) (old new : Cpu) : Type 0 where
   pub ready : IsReady domain new
   pub before : IsAsBefore old new
-  pub missed : HasMissed (terms_in domain) (number_of old) TryWrite l (calls_of old) (calls_of new)
+  pub missed : HasMissed (terms_of domain.plan) old.number TryWrite l (calls_of old) (calls_of new)
 
-pub record LeavesLock (domain : AnyDomain) (c : Pc) (l : ℕ) (m : Manner) (old new : AnyCpu) : Type 0 where
+pub record LeavesLock (domain : Domain) (c : Pc) (l : ℕ) (m : Manner) (old new : Cpu) : Type 0 where
   pub ready : IsReady domain new
-  pub before : (before : AnyCpu) → IsHolding l m before old → IsAsBefore before new
+  pub before : (before : Cpu) → IsHolding l m before old → IsAsBefore before new
   pub left : HasLeft c l (calls_of old) (calls_of new)
 
 -- the seat has opened the cell of this name, and has its value

@@ -12,9 +12,6 @@
 //! halt, [`Seat::try_turn`] stands for [`Seat::try_with`], and a guard is given back and never dropped.
 #![tactic(auto)]
 
-mod awake;
-mod family;
-mod halting;
 mod held;
 mod holding;
 mod keys;
@@ -29,9 +26,9 @@ mod showing;
 mod working;
 mod writing;
 
-pub use family::{AnyCpu, AnyDomain};
 pub use held::Held;
 pub use keys::Keys;
+pub use lk_domain::{Cpu, Domain};
 pub use locks::{Locks, Rw, Spin};
 pub use opening::Open;
 pub use seat::Seat;

@@ -1,12 +1,13 @@
 // A value under a reader-writer lock that its readers share.
 ghost use Rattle.std.specs.Prelude.{◌≡◌, ◌+◌, ◌<◌, ◌≤◌, IfOk, length, false};
 ghost use Rattle.std.specs.Fn.{FnOnceReturnsAt, FnOnceReturnsAtMut};
-ghost use Rattle.lk_domain.specs.Calls.{holds_in};
+ghost use Rattle.lk_domain.specs.Calls.{holds_in, terms_of};
+ghost use Rattle.lk_domain.specs.Seats.{calls_of};
 ghost use Rattle.lk_domain.specs.declared.plan.TheConstants.{MOST_LOCKS};
+ghost use Rattle.lk_law.specs.Agree.{halts};
 ghost use Rattle.lk_lock.specs.Cells.{AreKeysOf, names_of};
-ghost use Rattle.lk_lock.specs.Families.{IsAwake, calls_of, holds_of, number_of, plan_of, terms_in};
 ghost use Rattle.lk_lock.specs.Made.{IsSharedAmong, Keeps, KeepsShared};
-ghost use Rattle.lk_lock.specs.Standing.{HasRead, HasWritten, IsAsBefore, IsSharedUnder};
+ghost use Rattle.lk_lock.specs.Standing.{HasRead, HasWritten, IsAsBefore, IsSharedUnder, holds_of};
 ghost use Rattle.lk_rows.specs.declared.setup.Verb.TheVariants.{Read, Write};
 
 use crate::locks::Locks;
@@ -77,7 +78,7 @@ impl Locks {
 impl<'a, R> Seat<'a, R> {
     /// Whether its processor holds the lock, as a reader or as the writer. Then it may not take it.
     pub fn holds_shared<T>(&self, shared: &Shared<T>) -> bool
-        requires awake { IsAwake self.now.domain.now }
+        requires awake { halts self.now.domain.now.plan.mode ≡ false }
         ensures { result ≡ holds_in (holds_of self.now.cpu.now) shared.now.id.index }
     {
         self.holds_lock(shared.id)
@@ -93,14 +94,14 @@ impl<'a, R: Wait> Seat<'a, R> {
     /// other lock was taken meanwhile but its wait lock, once, by a call that has to queue. The
     /// processor holds what it held.
     pub fn read<T, U, W: FnOnce(&T) -> U>(&mut self, shared: &Shared<T>, work: W) -> U
-        requires lock { IsSharedUnder (plan_of self.old.domain.now) shared.now.id.index
+        requires lock { IsSharedUnder self.old.domain.now.plan shared.now.id.index
             (names_of shared.now.cells.items) }
         requires free { holds_in (holds_of self.old.cpu.now) shared.now.id.index ≡ false }
         requires callable { W.IsAlwaysCallable work }
         ensures name { self.new.cpu.ghost_name ≡ self.old.cpu.ghost_name }
         ensures domain { self.new.domain.now ≡ self.old.domain.now }
         ensures before { IsAsBefore self.old.cpu.now self.new.cpu.now }
-        ensures path { HasRead (terms_in self.old.domain.now) (number_of self.old.cpu.now) Read
+        ensures path { HasRead (terms_of self.old.domain.now.plan) self.old.cpu.now.number Read
             shared.now.id.index (calls_of self.old.cpu.now) (calls_of self.new.cpu.now) }
         ensures done { (x : T) × FnOnceReturnsAt W.FnOnce work x result }
     {
@@ -133,14 +134,14 @@ impl<'a, R: Wait> Seat<'a, R> {
         shared: &Shared<T>,
         work: W,
     ) -> U
-        requires lock { IsSharedUnder (plan_of self.old.domain.now) shared.now.id.index
+        requires lock { IsSharedUnder self.old.domain.now.plan shared.now.id.index
             (names_of shared.now.cells.items) }
         requires free { holds_in (holds_of self.old.cpu.now) shared.now.id.index ≡ false }
         requires callable { W.IsAlwaysCallable work }
         ensures name { self.new.cpu.ghost_name ≡ self.old.cpu.ghost_name }
         ensures domain { self.new.domain.now ≡ self.old.domain.now }
         ensures before { IsAsBefore self.old.cpu.now self.new.cpu.now }
-        ensures path { HasWritten (terms_in self.old.domain.now) (number_of self.old.cpu.now)
+        ensures path { HasWritten (terms_of self.old.domain.now.plan) self.old.cpu.now.number
             Write shared.now.id.index (calls_of self.old.cpu.now) (calls_of self.new.cpu.now) }
         ensures done { (x : T) × (y : T) × FnOnceReturnsAtMut W.FnOnce work x result y }
     {

@@ -44,7 +44,7 @@ impl Debug for Open {
     fn fmt<W: Write>(&self, f: &mut Formatter<W>) -> Result {
         f.debug_struct("Open")
             .field("mode", &self.domain.mode())
-            .field("locks", &self.domain.plan().locks.len())
+            .field("locks", &self.domain.locks())
             .field("cpus", &self.cpus.len())
             .finish()
     }

@@ -4,37 +4,35 @@ ghost use Rattle.std.specs.Fn.{FnOnceReturnsAtMut};
 ghost use Rattle.lk_abs.specs.declared.holder.Manner.TheVariants.{Writes};
 ghost use Rattle.lk_cell.specs.Latched.{IsKey};
 ghost use Rattle.lk_domain.specs.Plans.{cpus_of, locks_of};
+ghost use Rattle.lk_domain.specs.Seats.{IsStill, view_of};
 ghost use Rattle.lk_domain.specs.Values.{IsHomeWith, MayCopy, cell_of, copy_at};
+ghost use Rattle.lk_domain.specs.declared.cpu.Cpu.{Cpu};
 ghost use Rattle.lk_lock.specs.Cells.{names_of};
-ghost use Rattle.lk_lock.specs.Families.{IsStill, holds_of, plan_of, view_of};
-ghost use Rattle.lk_lock.specs.Standing.{IsHolding, IsReady, IsSharedUnder};
-ghost use Rattle.lk_lock.specs.declared.family.AnyCpu.{AnyCpu};
+ghost use Rattle.lk_lock.specs.Standing.{IsHolding, IsReady, IsSharedUnder, holds_of};
 
-use crate::family::{AnyCpu, AnyDomain};
-use crate::holding;
 use crate::shared::Shared;
 use lk_cell::{Any, Key, KeyCell};
-use lk_domain::{LockId, MOST_CPUS, with_copy};
+use lk_domain::{Cpu, Domain, LockId, MOST_CPUS, with_copy, with_key};
 
 // Works once on the value of a lock, which is held alone.
 #[inline(always)]
 pub(crate) fn work_under<T, U, W: FnOnce(&mut T) -> U>(
-    cpu: &mut AnyCpu,
-    domain: &AnyDomain,
+    cpu: &mut Cpu,
+    domain: &Domain,
     id: LockId,
     cell: &KeyCell<T, Any>,
     work: W,
 ) -> U
     requires ready { IsReady domain.now cpu.old }
-    requires lock { id.index < locks_of (plan_of domain.now) }
-    requires cell { cell_of (plan_of domain.now) id.index
+    requires lock { id.index < locks_of domain.now.plan }
+    requires cell { cell_of domain.now.plan id.index
         ≡ Some cell.now.table.shared.table_id }
     requires held { IsHomeWith id.index (holds_of cpu.old) }
     requires callable { W.IsAlwaysCallable work }
     ensures still { IsStill cpu.old cpu.new }
     ensures done { (x : T) × (y : T) × FnOnceReturnsAtMut W.FnOnce work x result y }
 {
-    holding::work(
+    with_key(
         cpu,
         domain,
         id,
@@ -49,13 +47,13 @@ pub(crate) fn work_under<T, U, W: FnOnce(&mut T) -> U>(
 
 // Works once on the own value of a lock with copies, and tells what it is then.
 pub(crate) fn work_on_own<T: Copy + Drop, U, W: FnOnce(&mut T) -> U>(
-    cpu: &mut AnyCpu,
-    domain: &AnyDomain,
+    cpu: &mut Cpu,
+    domain: &Domain,
     shared: &Shared<T>,
     work: W,
 ) -> (U, T)
     requires ready { IsReady domain.now cpu.old }
-    requires lock { IsSharedUnder (plan_of domain.now) shared.now.id.index
+    requires lock { IsSharedUnder domain.now.plan shared.now.id.index
         (names_of shared.now.cells.items) }
     requires held { IsHomeWith shared.now.id.index (holds_of cpu.old) }
     requires callable { W.IsAlwaysCallable work }
@@ -79,11 +77,11 @@ pub(crate) fn work_on_own<T: Copy + Drop, U, W: FnOnce(&mut T) -> U>(
 }
 
 // The cell of the copy for the processor of this number.
-fn copy_of<'a, T>(domain: &AnyDomain, shared: &'a Shared<T>, number: u32) -> &'a KeyCell<T, Any>
-    requires lock { IsSharedUnder (plan_of domain.now) shared.now.id.index
+fn copy_of<'a, T>(domain: &Domain, shared: &'a Shared<T>, number: u32) -> &'a KeyCell<T, Any>
+    requires lock { IsSharedUnder domain.now.plan shared.now.id.index
         (names_of shared.now.cells.items) }
-    requires number { number < cpus_of (plan_of domain.now) }
-    ensures { cell_of (plan_of domain.now) (copy_at (plan_of domain.now) shared.now.id.index number)
+    requires number { number < cpus_of domain.now.plan }
+    ensures { cell_of domain.now.plan (copy_at domain.now.plan shared.now.id.index number)
         ≡ Some result.now.table.shared.table_id }
 {
     shared.cells.get(1 + number as usize)
@@ -92,50 +90,50 @@ fn copy_of<'a, T>(domain: &AnyDomain, shared: &'a Shared<T>, number: u32) -> &'a
 // Works once on the copy of a value for the processor of this number. The lock is held alone, or by the
 // reader with this number.
 pub(crate) fn work_on_copy<T, U, W: FnOnce(&mut T) -> U>(
-    cpu: &mut AnyCpu,
-    domain: &AnyDomain,
+    cpu: &mut Cpu,
+    domain: &Domain,
     shared: &Shared<T>,
     number: u32,
     work: W,
 ) -> U
     requires ready { IsReady domain.now cpu.old }
-    requires lock { IsSharedUnder (plan_of domain.now) shared.now.id.index
+    requires lock { IsSharedUnder domain.now.plan shared.now.id.index
         (names_of shared.now.cells.items) }
-    requires number { number < cpus_of (plan_of domain.now) }
+    requires number { number < cpus_of domain.now.plan }
     requires held { MayCopy shared.now.id.index number (view_of cpu.old) }
     requires callable { W.IsAlwaysCallable work }
     ensures still { IsStill cpu.old cpu.new }
     ensures done { (x : T) × (y : T) × FnOnceReturnsAtMut W.FnOnce work x result y }
 {
     let cell = copy_of(domain, shared, number);
-    let inside = |key: &mut Key| -> U
-        requires key { IsKey cell.now.table.shared.table_id key.old }
-        requires callable { W.IsAlwaysCallable work }
-        ensures key { IsKey cell.entry.now.table.shared.table_id key.new }
-        ensures done { (x : T) × (y : T) × FnOnceReturnsAtMut W.FnOnce work x result y }
-    { cell.with(key, work) };
-    match (cpu, domain) {
-        (AnyCpu::Awake(cpu), AnyDomain::Awake(domain)) => {
-            with_copy(cpu, domain, shared.id, number, inside)
-        }
-        _ => unreachable!(),
-    }
+    with_copy(
+        cpu,
+        domain,
+        shared.id,
+        number,
+        |key: &mut Key| -> U
+            requires key { IsKey cell.now.table.shared.table_id key.old }
+            requires callable { W.IsAlwaysCallable work }
+            ensures key { IsKey cell.entry.now.table.shared.table_id key.new }
+            ensures done { (x : T) × (y : T) × FnOnceReturnsAtMut W.FnOnce work x result y }
+        { cell.with(key, work) },
+    )
 }
 
 // Sets each copy of a value to this. The lock is held by its writer.
 pub(crate) fn set_copies<T: Copy + Drop>(
-    cpu: &mut AnyCpu,
-    domain: &AnyDomain,
+    cpu: &mut Cpu,
+    domain: &Domain,
     shared: &Shared<T>,
     value: T,
 )
     requires ready { IsReady domain.now cpu.old }
-    requires lock { IsSharedUnder (plan_of domain.now) shared.now.id.index
+    requires lock { IsSharedUnder domain.now.plan shared.now.id.index
         (names_of shared.now.cells.items) }
-    requires held { (before : AnyCpu) × IsHolding shared.now.id.index Writes before cpu.old }
+    requires held { (before : Cpu) × IsHolding shared.now.id.index Writes before cpu.old }
     ensures { IsStill cpu.old cpu.new }
 {
-    let sockets = &domain.plan().topology.sockets;
+    let sockets = &domain.plan.topology.sockets;
     prove!(sockets.len() <= MOST_CPUS);
     for number in 0..sockets.len() as u32 {
         work_on_copy(cpu, domain, shared, number, |copy: &mut T| *copy = value);

@@ -2,11 +2,10 @@
 // queue.
 ghost use Rattle.std.specs.Prelude.{◌≡◌, ◌<◌, length};
 ghost use Rattle.lk_abs.specs.declared.names.Kind.TheVariants.{Spin as spinning};
-ghost use Rattle.lk_lock.specs.Families.{number_of, plan_of};
 ghost use Rattle.lk_lock.specs.Standing.{AllRest, IsUnder, Rests};
 
 use lk_abs::List;
-use lk_lock::{AnyCpu, AnyDomain};
+use lk_lock::{Cpu, Domain};
 use lk_ranks::RankedSpin;
 use std::sync::Wait;
 use std::thread;
@@ -19,21 +18,21 @@ const TURNS: u32 = 1000;
 /// above the queue's.
 #[derive(Drop)]
 pub struct Shop<'a> {
-    pub domain: &'a AnyDomain,
+    pub domain: &'a Domain,
     pub queue: &'a RankedSpin<Vec<u64>>,
     pub count: &'a RankedSpin<u64>,
-    ghost queues: { IsUnder (plan_of domain.now) spinning queue.now.spin.id.index
+    ghost queues: { IsUnder domain.now.plan spinning queue.now.spin.id.index
         queue.now.spin.cell.table.shared.table_id },
-    ghost counts: { IsUnder (plan_of domain.now) spinning count.now.spin.id.index
+    ghost counts: { IsUnder domain.now.plan spinning count.now.spin.id.index
         count.now.spin.cell.table.shared.table_id },
     ghost order: { queue.now.spin.id.index < count.now.spin.id.index },
 }
 
 // One number.
-fn take_turn<R: Wait>(rt: &R, cpu: &mut AnyCpu, shop: &Shop<'_>)
-    requires rests { Rests shop.now.domain.now (number_of cpu.old) cpu.old }
-    ensures number { number_of cpu.new ≡ number_of cpu.old }
-    ensures rests { Rests shop.now.domain.now (number_of cpu.old) cpu.new }
+fn take_turn<R: Wait>(rt: &R, cpu: &mut Cpu, shop: &Shop<'_>)
+    requires rests { Rests shop.now.domain.now cpu.old.number cpu.old }
+    ensures number { cpu.new.number ≡ cpu.old.number }
+    ensures rests { Rests shop.now.domain.now cpu.old.number cpu.new }
 {
     let mut held = shop.queue.lock(cpu, rt, shop.domain);
     let number = shop.count.with_inside(&mut held, |count: &mut u64| -> u64 {
@@ -46,9 +45,9 @@ fn take_turn<R: Wait>(rt: &R, cpu: &mut AnyCpu, shop: &Shop<'_>)
 }
 
 // All turns of a thread.
-fn take_turns<R: Wait>(rt: &R, cpu: &mut AnyCpu, shop: &Shop<'_>)
-    requires rests { Rests shop.now.domain.now (number_of cpu.old) cpu.old }
-    ensures rests { Rests shop.now.domain.now (number_of cpu.old) cpu.new }
+fn take_turns<R: Wait>(rt: &R, cpu: &mut Cpu, shop: &Shop<'_>)
+    requires rests { Rests shop.now.domain.now cpu.old.number cpu.old }
+    ensures rests { Rests shop.now.domain.now cpu.old.number cpu.new }
 {
     for _ in 0..TURNS {
         take_turn(rt, cpu, shop);
@@ -56,7 +55,7 @@ fn take_turns<R: Wait>(rt: &R, cpu: &mut AnyCpu, shop: &Shop<'_>)
 }
 
 /// All threads take their turns, each with a processor.
-pub fn take_all_turns<R: Threads + Wait + Sync>(rt: &R, cpus: &mut List<AnyCpu>, shop: &Shop<'_>)
+pub fn take_all_turns<R: Threads + Wait + Sync>(rt: &R, cpus: &mut List<Cpu>, shop: &Shop<'_>)
     requires rest { AllRest shop.now.domain.now cpus.old.items }
     ensures all { length cpus.new.items ≡ length cpus.old.items }
     ensures rest { AllRest shop.now.domain.now cpus.new.items }

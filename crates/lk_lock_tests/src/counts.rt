@@ -2,11 +2,10 @@
 // value comes back as it was left.
 ghost use Rattle.std.specs.Prelude.{◌≡◌, length};
 ghost use Rattle.lk_abs.specs.declared.names.Kind.TheVariants.{Spin as spinning};
-ghost use Rattle.lk_lock.specs.Families.{number_of, plan_of};
 ghost use Rattle.lk_lock.specs.Standing.{AllRest, IsUnder, Rests};
 
 use lk_abs::{List, Memory, Mode};
-use lk_lock::{AnyCpu, AnyDomain, Locks, Seat, Spin};
+use lk_lock::{Cpu, Domain, Locks, Seat, Spin};
 use std::sync::Wait;
 use std::thread;
 use std::thread::Threads;
@@ -15,11 +14,11 @@ use std::thread::Threads;
 const TURNS: u32 = 1_000;
 
 // All turns of a processor. Each adds one, at a try if nobody has the lock.
-fn take_turns<R: Wait>(rt: &R, domain: &AnyDomain, cpu: &mut AnyCpu, count: &Spin<u64>)
-    requires rests { Rests domain.now (number_of cpu.old) cpu.old }
-    requires count { IsUnder (plan_of domain.now) spinning count.now.id.index
+fn take_turns<R: Wait>(rt: &R, domain: &Domain, cpu: &mut Cpu, count: &Spin<u64>)
+    requires rests { Rests domain.now cpu.old.number cpu.old }
+    requires count { IsUnder domain.now.plan spinning count.now.id.index
         count.now.cell.table.shared.table_id }
-    ensures rests { Rests domain.now (number_of cpu.old) cpu.new }
+    ensures rests { Rests domain.now cpu.old.number cpu.new }
 {
     for _ in 0..TURNS {
         let mut seat = Seat::new(rt, domain, cpu);
@@ -33,12 +32,12 @@ fn take_turns<R: Wait>(rt: &R, domain: &AnyDomain, cpu: &mut AnyCpu, count: &Spi
 // The turns of all processors, each on a thread of its own.
 fn take_all_turns<R: Threads + Wait + Sync>(
     rt: &R,
-    domain: &AnyDomain,
-    cpus: &mut List<AnyCpu>,
+    domain: &Domain,
+    cpus: &mut List<Cpu>,
     count: &Spin<u64>,
 )
     requires rest { AllRest domain.now cpus.old.items }
-    requires count { IsUnder (plan_of domain.now) spinning count.now.id.index
+    requires count { IsUnder domain.now.plan spinning count.now.id.index
         count.now.cell.table.shared.table_id }
     ensures many { length cpus.new.items ≡ length cpus.old.items }
     ensures rest { AllRest domain.now cpus.new.items }

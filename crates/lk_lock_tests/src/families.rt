@@ -2,22 +2,22 @@
 
 use crate::processors::last;
 use lk_abs::{Format, List, Memory, Mode, Topology};
-use lk_lock::{AnyDomain, Locks, Open, Seat};
+use lk_lock::{Domain, Locks, Open, Seat};
 use std::sync::Wait;
 
 // How many turns a waiter of a paravirtual lock spins.
 const TURNS: u16 = 3;
 
 // Whether a domain of two processors has them on these sockets, is of format one, and has this bound.
-fn has(domain: &AnyDomain, sockets: &[u32], bound: u32) -> bool {
-    let plan = domain.plan();
+fn has(domain: &Domain, sockets: &[u32], bound: u32) -> bool {
+    let plan = &domain.plan;
     plan.topology.sockets.as_slice() == sockets
         && plan.format == Format::One
         && plan.threshold == bound
 }
 
 // Two processors, the first on socket 1 and the second on socket 0: whether the domain is of this
-// family and has them there, and its lock serves. There are no sockets where waiters halt.
+// family and has them there, and its lock serves.
 fn serves<R: Wait + AllocGlobal>(rt: &R, mode: Mode) -> Result<bool, Memory> {
     let mut locks = Locks::new(rt.alloc(), 2)?;
     let count = locks.spin(7u64)?;
@@ -25,10 +25,11 @@ fn serves<R: Wait + AllocGlobal>(rt: &R, mode: Mode) -> Result<bool, Memory> {
     sockets.push(1);
     sockets.push(0);
     let Open { domain, mut cpus } = locks.open_on(mode, Topology { sockets }, TURNS)?;
-    let right = match mode {
-        Mode::Pv => has(&domain, &[0, 0], 3),
-        Mode::Virt | Mode::Native | Mode::Cna => has(&domain, &[1, 0], 16),
+    let bound = match mode {
+        Mode::Pv => 3,
+        Mode::Virt | Mode::Native | Mode::Cna => 16,
     };
+    let right = has(&domain, &[1, 0], bound);
     let mut cpu = last(&domain, &mut cpus);
     let mut seat = Seat::new(rt, &domain, &mut cpu);
     let found = seat.with(&count, |count: &mut u64| -> u64 { *count });

@@ -2,13 +2,12 @@
 ghost use Rattle.std.specs.Prelude.{◌≡◌};
 ghost use Rattle.lk_abs.specs.declared.names.Kind.TheVariants.{Rw as sharing};
 ghost use Rattle.lk_lock.specs.Cells.{names_of};
-ghost use Rattle.lk_lock.specs.Families.{plan_of};
 ghost use Rattle.lk_lock.specs.Standing.{IsSharedUnder, IsUnder, Rests};
 
 use crate::processors::last;
 use lk_abs::{Memory, Mode};
 use lk_domain::LockId;
-use lk_lock::{AnyCpu, AnyDomain, Locks, Open, Rw, Seat, Shared};
+use lk_lock::{Cpu, Domain, Locks, Open, Rw, Seat, Shared};
 use lk_run::{NoIrq, read_lock, write_lock};
 use std::sync::Wait;
 
@@ -16,18 +15,13 @@ use std::sync::Wait;
 const FIRST: LockId = LockId { index: 0 };
 
 // Whether the lock is seen held, once its writer has come in.
-fn is_held_to_write<R: Wait>(rt: &R, domain: &AnyDomain, cpu: &mut AnyCpu, rw: &Rw<u64>) -> bool
+fn is_held_to_write<R: Wait>(rt: &R, domain: &Domain, cpu: &mut Cpu, rw: &Rw<u64>) -> bool
     requires rests { Rests domain.now 0 cpu.old }
-    requires lock { IsUnder (plan_of domain.now) sharing rw.now.id.index
+    requires lock { IsUnder domain.now.plan sharing rw.now.id.index
         rw.now.cell.table.shared.table_id }
     requires first { rw.now.id.index ≡ 0 }
 {
-    match (&mut *cpu, domain) {
-        (AnyCpu::Awake(cpu), AnyDomain::Awake(domain)) => {
-            write_lock(cpu, rt, domain, FIRST, &mut NoIrq);
-        }
-        _ => unreachable!(),
-    }
+    write_lock(cpu, rt, domain, FIRST, &mut NoIrq);
     let seat = Seat::new(rt, domain, cpu);
     seat.holds_rw(rw)
 }
@@ -35,21 +29,16 @@ fn is_held_to_write<R: Wait>(rt: &R, domain: &AnyDomain, cpu: &mut AnyCpu, rw: &
 // Whether the lock is seen held, once a reader has come in.
 fn is_held_to_read<R: Wait>(
     rt: &R,
-    domain: &AnyDomain,
-    cpu: &mut AnyCpu,
+    domain: &Domain,
+    cpu: &mut Cpu,
     shared: &Shared<u64>,
 ) -> bool
     requires rests { Rests domain.now 0 cpu.old }
-    requires lock { IsSharedUnder (plan_of domain.now) shared.now.id.index
+    requires lock { IsSharedUnder domain.now.plan shared.now.id.index
         (names_of shared.now.cells.items) }
     requires first { shared.now.id.index ≡ 0 }
 {
-    match (&mut *cpu, domain) {
-        (AnyCpu::Awake(cpu), AnyDomain::Awake(domain)) => {
-            read_lock(cpu, rt, domain, FIRST, &mut NoIrq);
-        }
-        _ => unreachable!(),
-    }
+    read_lock(cpu, rt, domain, FIRST, &mut NoIrq);
     let seat = Seat::new(rt, domain, cpu);
     seat.holds_shared(shared)
 }

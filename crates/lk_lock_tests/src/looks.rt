@@ -2,12 +2,11 @@
 ghost use Rattle.std.specs.Prelude.{◌≡◌, ◌<◌, length};
 ghost use Rattle.lk_abs.specs.declared.names.Kind.TheVariants.{Rw as sharing, Spin as spinning};
 ghost use Rattle.lk_lock.specs.Cells.{names_of};
-ghost use Rattle.lk_lock.specs.Families.{number_of, plan_of};
 ghost use Rattle.lk_lock.specs.Standing.{AllRest, IsSharedUnder, IsUnder, Rests};
 
 use crate::processors::last;
 use lk_abs::{List, Memory, Mode};
-use lk_lock::{AnyCpu, AnyDomain, Locks, Open, Rw, Seat, Shared, Spin};
+use lk_lock::{Cpu, Domain, Locks, Open, Rw, Seat, Shared, Spin};
 use std::sync::Wait;
 use std::thread;
 use std::thread::Threads;
@@ -56,15 +55,15 @@ fn readers_and_writers_are_seen(rt: HostRuntime) -> Result<(), Memory> {
 // A lock of each kind. The value is how many threads have come.
 #[derive(Drop)]
 struct Doors<'a> {
-    domain: &'a AnyDomain,
+    domain: &'a Domain,
     spin: &'a Spin<u32>,
     rw: &'a Rw<u32>,
     shared: &'a Shared<u32>,
-    ghost spins: { IsUnder (plan_of domain.now) spinning spin.now.id.index
+    ghost spins: { IsUnder domain.now.plan spinning spin.now.id.index
         spin.now.cell.table.shared.table_id },
-    ghost writes: { IsUnder (plan_of domain.now) sharing rw.now.id.index
+    ghost writes: { IsUnder domain.now.plan sharing rw.now.id.index
         rw.now.cell.table.shared.table_id },
-    ghost shares: { IsSharedUnder (plan_of domain.now) shared.now.id.index
+    ghost shares: { IsSharedUnder domain.now.plan shared.now.id.index
         (names_of shared.now.cells.items) },
 }
 
@@ -97,9 +96,9 @@ impl<'a> Doors<'a> {
 }
 
 // A thread comes to each lock. The first to come holds it until the second waits for it.
-fn come<R: Wait>(rt: &R, cpu: &mut AnyCpu, doors: &Doors<'_>)
-    requires rests { Rests doors.now.domain.now (number_of cpu.old) cpu.old }
-    ensures rests { Rests doors.now.domain.now (number_of cpu.old) cpu.new }
+fn come<R: Wait>(rt: &R, cpu: &mut Cpu, doors: &Doors<'_>)
+    requires rests { Rests doors.now.domain.now cpu.old.number cpu.old }
+    ensures rests { Rests doors.now.domain.now cpu.old.number cpu.new }
 {
     let mut seat = Seat::new(rt, doors.domain, cpu);
     seat.with(doors.spin, |came: &mut u32| {
@@ -123,7 +122,7 @@ fn come<R: Wait>(rt: &R, cpu: &mut AnyCpu, doors: &Doors<'_>)
 }
 
 // Two threads come, each with a processor.
-fn come_together<R: Threads + Wait + Sync>(rt: &R, cpus: &mut List<AnyCpu>, doors: &Doors<'_>)
+fn come_together<R: Threads + Wait + Sync>(rt: &R, cpus: &mut List<Cpu>, doors: &Doors<'_>)
     requires rest { AllRest doors.now.domain.now cpus.old.items }
     ensures many { length cpus.new.items ≡ length cpus.old.items }
     ensures rest { AllRest doors.now.domain.now cpus.new.items }

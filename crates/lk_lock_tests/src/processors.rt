@@ -3,10 +3,10 @@ ghost use Rattle.std.specs.Prelude.{◌≡◌, ◌+◌, ◌<◌, length};
 ghost use Rattle.lk_lock.specs.Standing.{AllRest, Rests};
 
 use lk_abs::List;
-use lk_lock::{AnyCpu, AnyDomain};
+use lk_lock::{Cpu, Domain};
 
 // The last processor of a domain.
-pub(crate) fn last(domain: &AnyDomain, cpus: &mut List<AnyCpu>) -> AnyCpu
+pub(crate) fn last(domain: &Domain, cpus: &mut List<Cpu>) -> Cpu
     requires some { 0 < length cpus.old.items }
     requires rest { AllRest domain.now cpus.old.items }
     ensures rests { Rests domain.now (length cpus.new.items) result }

@@ -2,11 +2,10 @@
 ghost use Rattle.std.specs.Prelude.{◌≡◌, length};
 ghost use Rattle.lk_abs.specs.declared.names.Kind.TheVariants.{Spin as spinning};
 ghost use Rattle.lk_lock.specs.Cells.{names_of};
-ghost use Rattle.lk_lock.specs.Families.{number_of, plan_of};
 ghost use Rattle.lk_lock.specs.Standing.{AllRest, IsSharedUnder, IsUnder, Rests};
 
 use lk_abs::{List, Memory, Mode};
-use lk_lock::{AnyCpu, AnyDomain, Locks, Seat, Shared, Spin};
+use lk_lock::{Cpu, Domain, Locks, Seat, Shared, Spin};
 use std::sync::Wait;
 use std::thread;
 use std::thread::Threads;
@@ -17,20 +16,20 @@ const TURNS: u64 = 20_000;
 // A value that all threads add to, and how often one of them read less than it had left.
 #[derive(Drop)]
 struct Board<'a> {
-    domain: &'a AnyDomain,
+    domain: &'a Domain,
     count: &'a Shared<u64>,
     stale: &'a Spin<u64>,
-    ghost counts: { IsSharedUnder (plan_of domain.now) count.now.id.index
+    ghost counts: { IsSharedUnder domain.now.plan count.now.id.index
         (names_of count.now.cells.items) },
-    ghost stales: { IsUnder (plan_of domain.now) spinning stale.now.id.index
+    ghost stales: { IsUnder domain.now.plan spinning stale.now.id.index
         stale.now.cell.table.shared.table_id },
 }
 
 // A thread adds one, and then reads.
-fn take_turn<R: Wait>(rt: &R, cpu: &mut AnyCpu, board: &Board<'_>)
-    requires rests { Rests board.now.domain.now (number_of cpu.old) cpu.old }
-    ensures number { number_of cpu.new ≡ number_of cpu.old }
-    ensures rests { Rests board.now.domain.now (number_of cpu.old) cpu.new }
+fn take_turn<R: Wait>(rt: &R, cpu: &mut Cpu, board: &Board<'_>)
+    requires rests { Rests board.now.domain.now cpu.old.number cpu.old }
+    ensures number { cpu.new.number ≡ cpu.old.number }
+    ensures rests { Rests board.now.domain.now cpu.old.number cpu.new }
 {
     let mut seat = Seat::new(rt, board.domain, cpu);
     let left = seat.update(board.count, |count: &mut u64| -> u64 {
@@ -46,9 +45,9 @@ fn take_turn<R: Wait>(rt: &R, cpu: &mut AnyCpu, board: &Board<'_>)
 }
 
 // All turns of a thread.
-fn take_turns<R: Wait>(rt: &R, cpu: &mut AnyCpu, board: &Board<'_>)
-    requires rests { Rests board.now.domain.now (number_of cpu.old) cpu.old }
-    ensures rests { Rests board.now.domain.now (number_of cpu.old) cpu.new }
+fn take_turns<R: Wait>(rt: &R, cpu: &mut Cpu, board: &Board<'_>)
+    requires rests { Rests board.now.domain.now cpu.old.number cpu.old }
+    ensures rests { Rests board.now.domain.now cpu.old.number cpu.new }
 {
     for _ in 0..TURNS {
         take_turn(rt, cpu, board);
@@ -56,7 +55,7 @@ fn take_turns<R: Wait>(rt: &R, cpu: &mut AnyCpu, board: &Board<'_>)
 }
 
 // The turns of all threads, each with a processor.
-fn take_all_turns<R: Threads + Wait + Sync>(rt: &R, cpus: &mut List<AnyCpu>, board: &Board<'_>)
+fn take_all_turns<R: Threads + Wait + Sync>(rt: &R, cpus: &mut List<Cpu>, board: &Board<'_>)
     requires rest { AllRest board.now.domain.now cpus.old.items }
     ensures many { length cpus.new.items ≡ length cpus.old.items }
     ensures rest { AllRest board.now.domain.now cpus.new.items }

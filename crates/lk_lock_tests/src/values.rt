@@ -2,12 +2,11 @@
 // and what is shown of a lock.
 ghost use Rattle.std.specs.Prelude.{◌≡◌};
 ghost use Rattle.lk_abs.specs.declared.names.Kind.TheVariants.{Rw as shared, Spin as spinning};
-ghost use Rattle.lk_lock.specs.Families.{plan_of};
 ghost use Rattle.lk_lock.specs.Standing.{IsUnder, Rests};
 
 use crate::processors::last;
 use lk_abs::{Memory, Mode};
-use lk_lock::{AnyCpu, AnyDomain, Held, Locks, Open, Rw, Seat, Spin};
+use lk_lock::{Cpu, Domain, Held, Locks, Open, Rw, Seat, Spin};
 use std::alloc::AllocError;
 use std::sync::Wait;
 
@@ -95,11 +94,11 @@ fn guard_is_refused_while_another_holds(rt: HostRuntime) -> Result<(), Memory> {
 }
 
 // Leaves a value under each lock.
-fn leave<R: Wait>(rt: &R, domain: &AnyDomain, cpu: &mut AnyCpu, number: &Spin<u64>, other: &Rw<u32>)
+fn leave<R: Wait>(rt: &R, domain: &Domain, cpu: &mut Cpu, number: &Spin<u64>, other: &Rw<u32>)
     requires rests { Rests domain.now 0 cpu.old }
-    requires number { IsUnder (plan_of domain.now) spinning number.now.id.index
+    requires number { IsUnder domain.now.plan spinning number.now.id.index
         number.now.cell.table.shared.table_id }
-    requires other { IsUnder (plan_of domain.now) shared other.now.id.index
+    requires other { IsUnder domain.now.plan shared other.now.id.index
         other.now.cell.table.shared.table_id }
     ensures rests { Rests domain.now 0 cpu.new }
 {

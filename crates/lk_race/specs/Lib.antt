@@ -1,2 +1,1 @@
 pub mod Tracks
-pub mod Bares

@@ -3,7 +3,7 @@ ghost use Rattle.std.specs.Prelude.{◌≡◌, false};
 ghost use Rattle.lk_abs.specs.declared.names.Kind.TheVariants.{Rw, Spin};
 ghost use Rattle.lk_law.specs.Agree.{halts};
 ghost use Rattle.lk_domain.specs.Plans.{kind_at, locks_of};
-ghost use Rattle.lk_race.specs.Bares.{Rests};
+ghost use Rattle.lk_lock.specs.Standing.{Rests};
 
 use crate::course::{Course, is_write};
 use crate::plan::LOCK;
@@ -29,6 +29,7 @@ pub struct BareRace {
 #[derive(Drop)]
 pub struct BareTrack<'a> {
     pub domain: &'a Domain,
+    ghost awake: { halts domain.now.plan.mode ≡ false },
     ghost one: { locks_of domain.now.plan ≡ 1 },
     ghost kind: { kind_at domain.now.plan 0 ≡ Spin },
 }
@@ -56,6 +57,7 @@ impl Track for BareTrack<'_> {
 #[derive(Drop)]
 pub struct BareRwTrack<'a> {
     pub domain: &'a Domain,
+    ghost awake: { halts domain.now.plan.mode ≡ false },
     ghost one: { locks_of domain.now.plan ≡ 1 },
     ghost kind: { kind_at domain.now.plan 0 ≡ Rw },
 }
@@ -65,6 +67,7 @@ pub struct BareRwTrack<'a> {
 #[cold]
 #[inline(never)]
 fn write_turn<R: Wait>(cpu: &mut Cpu, rt: &R, domain: &Domain)
+    requires awake { halts domain.now.plan.mode ≡ false }
     requires one { locks_of domain.now.plan ≡ 1 }
     requires kind { kind_at domain.now.plan 0 ≡ Rw }
     requires rests { Rests domain.now cpu.old.number cpu.old }

@@ -1,12 +1,13 @@
 // A race for a paravirtual lock with nothing under it.
 ghost use Rattle.std.specs.Prelude.{◌≡◌, ◌≤◌};
 ghost use Rattle.lk_domain.specs.Plans.{locks_of};
-ghost use Rattle.lk_race.specs.Bares.{PvRests};
+ghost use Rattle.lk_lock.specs.Standing.{Rests};
 
 use crate::course::Course;
 use crate::plan::LOCK;
 use crate::track::Track;
-use lk_pvdomain::{PvCpu, PvDomain, pv_lock, pv_unlock};
+use lk_domain::Cpu;
+use lk_pvdomain::{PvDomain, pv_lock, pv_unlock};
 use std::sync::Wait;
 
 /// A race for a lock whose waiters halt, with nothing under it: a turn takes the lock and frees
@@ -28,15 +29,15 @@ pub struct PvBareTrack<'a> {
 }
 
 impl Track for PvBareTrack<'_> {
-    type Cpu = PvCpu;
+    type Cpu = Cpu;
 
-    ghost rests = { λ track. PvRests track.domain.now };
+    ghost rests = { λ track. Rests track.domain.now.domain };
 
     ghost number = { λ cpu. cpu.number };
 
     // The loop is a function of its own, so that the code around it does not change its speed.
     #[inline(never)]
-    fn take_turns<R: Wait>(&self, rt: &R, cpu: &mut PvCpu, turns: u32) {
+    fn take_turns<R: Wait>(&self, rt: &R, cpu: &mut Cpu, turns: u32) {
         let domain = self.domain;
         for _ in 0..turns {
             pv_lock(cpu, rt, domain, LOCK);

@@ -3,14 +3,13 @@ ghost use Rattle.std.specs.Prelude.{◌≡◌, false};
 ghost use Rattle.lk_abs.specs.declared.names.Kind.TheVariants.{Spin as spinning};
 ghost use Rattle.lk_law.specs.Agree.{halts};
 ghost use Rattle.lk_lock.specs.Cells.{names_of};
-ghost use Rattle.lk_lock.specs.Families.{number_of, plan_of};
 ghost use Rattle.lk_lock.specs.Standing.{IsSharedUnder, IsUnder, Rests};
 
 use crate::course::{Course, is_write};
 use crate::track::{Track, ValueTrack};
 use crate::value::{Numbers, Value};
 use lk_abs::{Memory, Mode};
-use lk_lock::{AnyCpu, AnyDomain, Seat, Shared, Spin};
+use lk_lock::{Cpu, Domain, Seat, Shared, Spin};
 use std::alloc::Global;
 use std::sync::Wait;
 
@@ -28,20 +27,20 @@ pub struct RwRace {
 /// different, and the domain of the two locks.
 #[derive(Drop)]
 pub struct RwTrack<'a> {
-    pub domain: &'a AnyDomain,
+    pub domain: &'a Domain,
     pub numbers: &'a Shared<[u64; 2]>,
     pub were_one: &'a Spin<bool>,
-    ghost shared: { IsSharedUnder (plan_of domain.now) numbers.now.id.index
+    ghost shared: { IsSharedUnder domain.now.plan numbers.now.id.index
         (names_of numbers.now.cells.items) },
-    ghost under: { IsUnder (plan_of domain.now) spinning were_one.now.id.index
+    ghost under: { IsUnder domain.now.plan spinning were_one.now.id.index
         were_one.now.cell.table.shared.table_id },
 }
 
 // A turn: the last of a hundred is a writer's. Returns whether its numbers were one.
-fn take_turn<R: Wait>(rt: &R, cpu: &mut AnyCpu, track: &RwTrack<'_>, turn: u32) -> bool
-    requires rests { Rests track.now.domain.now (number_of cpu.old) cpu.old }
-    ensures number { number_of cpu.new ≡ number_of cpu.old }
-    ensures rests { Rests track.now.domain.now (number_of cpu.old) cpu.new }
+fn take_turn<R: Wait>(rt: &R, cpu: &mut Cpu, track: &RwTrack<'_>, turn: u32) -> bool
+    requires rests { Rests track.now.domain.now cpu.old.number cpu.old }
+    ensures number { cpu.new.number ≡ cpu.old.number }
+    ensures rests { Rests track.now.domain.now cpu.old.number cpu.new }
 {
     let mut seat = Seat::new(rt, track.domain, cpu);
     if is_write(turn) {
@@ -55,14 +54,14 @@ fn take_turn<R: Wait>(rt: &R, cpu: &mut AnyCpu, track: &RwTrack<'_>, turn: u32) 
 }
 
 impl Track for RwTrack<'_> {
-    type Cpu = AnyCpu;
+    type Cpu = Cpu;
 
     ghost rests = { λ track. Rests track.domain.now };
 
-    ghost number = { number_of };
+    ghost number = { λ cpu. cpu.number };
 
     // At the end the processor tells whether its numbers were always one.
-    fn take_turns<R: Wait>(&self, rt: &R, cpu: &mut AnyCpu, turns: u32) {
+    fn take_turns<R: Wait>(&self, rt: &R, cpu: &mut Cpu, turns: u32) {
         let mut one = true;
         for turn in 0..turns {
             one = take_turn(rt, cpu, self, turn) && one;
@@ -75,7 +74,7 @@ impl Track for RwTrack<'_> {
 }
 
 impl ValueTrack for RwTrack<'_> {
-    fn read<R: Wait>(&self, rt: &R, alloc: Global, cpu: &mut AnyCpu) -> Result<Numbers, Memory> {
+    fn read<R: Wait>(&self, rt: &R, alloc: Global, cpu: &mut Cpu) -> Result<Numbers, Memory> {
         let mut seat = Seat::new(rt, self.domain, cpu);
         let were_one = seat.with(self.were_one, |all: &mut bool| -> bool { *all });
         let each = seat.read(self.numbers, |numbers: &[u64; 2]| numbers.to_vec(alloc))?;

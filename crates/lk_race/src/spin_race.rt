@@ -1,14 +1,13 @@
 // A race for a spinlock with a value.
 ghost use Rattle.std.specs.Prelude.{◌≤◌};
 ghost use Rattle.lk_abs.specs.declared.names.Kind.TheVariants.{Spin as spinning};
-ghost use Rattle.lk_lock.specs.Families.{number_of, plan_of};
 ghost use Rattle.lk_lock.specs.Standing.{IsUnder, Rests};
 
 use crate::course::Course;
 use crate::track::{Track, ValueTrack};
 use crate::value::{Numbers, Value};
 use lk_abs::{Memory, Mode};
-use lk_lock::{AnyCpu, AnyDomain, Seat, Spin};
+use lk_lock::{Cpu, Domain, Seat, Spin};
 use std::alloc::Global;
 use std::sync::Wait;
 
@@ -40,20 +39,20 @@ pub struct SpinRace {
 /// What the threads share: a lock with its value, and the domain of the lock.
 #[derive(Drop)]
 pub struct SpinTrack<'a, V> {
-    pub domain: &'a AnyDomain,
+    pub domain: &'a Domain,
     pub value: &'a Spin<V>,
-    ghost under: { IsUnder (plan_of domain.now) spinning value.now.id.index
+    ghost under: { IsUnder domain.now.plan spinning value.now.id.index
         value.now.cell.table.shared.table_id },
 }
 
 impl<V: Value> Track for SpinTrack<'_, V> {
-    type Cpu = AnyCpu;
+    type Cpu = Cpu;
 
     ghost rests = { λ track. Rests track.domain.now };
 
-    ghost number = { number_of };
+    ghost number = { λ cpu. cpu.number };
 
-    fn take_turns<R: Wait>(&self, rt: &R, cpu: &mut AnyCpu, turns: u32) {
+    fn take_turns<R: Wait>(&self, rt: &R, cpu: &mut Cpu, turns: u32) {
         let (domain, value) = (self.domain, self.value);
         for _ in 0..turns {
             let mut seat = Seat::new(rt, domain, cpu);
@@ -65,7 +64,7 @@ impl<V: Value> Track for SpinTrack<'_, V> {
 }
 
 impl<V: Value> ValueTrack for SpinTrack<'_, V> {
-    fn read<R: Wait>(&self, rt: &R, alloc: Global, cpu: &mut AnyCpu) -> Result<Numbers, Memory> {
+    fn read<R: Wait>(&self, rt: &R, alloc: Global, cpu: &mut Cpu) -> Result<Numbers, Memory> {
         let mut seat = Seat::new(rt, self.domain, cpu);
         seat.with(self.value, |value: &mut V| Numbers::of(value, alloc))
     }

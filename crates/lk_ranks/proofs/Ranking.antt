@@ -8,16 +8,15 @@ use Rattle.lk_abs.specs.declared.holder.Manner.{Manner}
 use Rattle.lk_abs.specs.declared.names.LockName.{LockName}
 use Rattle.lk_law.proofs.common.Puts.{if-false}
 use Rattle.lk_law.proofs.common.Sames.{same_lock-true}
+use Rattle.lk_law.specs.Agree.{halts}
 use Rattle.lk_domain.specs.Calls.{Calls, Hold, Running, holds_in, waits_in, lock_name}
 use Rattle.lk_domain.specs.Marked.{AreOrdered}
 use Rattle.lk_domain.specs.Plans.{locks_of}
-use Rattle.lk_domain.specs.Seats as seats
 use Rattle.lk_domain.specs.declared.cpu.Cpu.{Cpu}
 use Rattle.lk_domain.proofs.turns.Noted.{newest_among, ordered_rest}
-use Rattle.lk_lock.specs.Families.{calls_of, holds_of}
-use Rattle.lk_lock.specs.Standing.{IsInside, IsReady, Rests, out_with}
-use Rattle.lk_lock.specs.declared.family.AnyCpu.{AnyCpu}
-use Rattle.lk_lock.specs.declared.family.AnyDomain.{AnyDomain}
+use Rattle.lk_domain.specs.Seats.{calls_of}
+use Rattle.lk_lock.specs.Standing.{holds_of, IsInside, IsReady, Rests, out_with}
+use Rattle.lk_domain.specs.declared.domain.Domain.{Domain}
 use Rattle.lk_ranks.specs.Above.{IsAbove}
 
 -- the lock of the rank is not held
@@ -55,7 +54,7 @@ held_more l k n m hs rank low old is = elim (cases_Bool (same_lock (lock_name l)
 ]
 
 -- With the lock l taken, what ranks above it, and above all from before, ranks above all.
-pub above_inside : (d : AnyDomain) (l rank : ℕ) (m : Manner) (before now : AnyCpu) → IsReady d now → IsInside l m before now
+pub above_inside : (d : Domain) (l rank : ℕ) (m : Manner) (before now : Cpu) → IsReady d now → IsInside l m before now
     → IsAbove rank (calls_of before) → l < rank → IsAbove rank (calls_of now)
 above_inside d l rank m before now ready in_it above low =
     record {
@@ -74,7 +73,7 @@ above_more low high c up above =
     }
 
 -- a processor that rests may take any lock
-pub above_rest : (d : AnyDomain) (i rank : ℕ) (cpu : AnyCpu) → Rests d i cpu → IsAbove rank (calls_of cpu)
+pub above_rest : (d : Domain) (i rank : ℕ) (cpu : Cpu) → Rests d i cpu → IsAbove rank (calls_of cpu)
 above_rest d i rank cpu rests = above_none rank (calls_of cpu) rests.ready.frames rests.holds
 
 -- a call waits for one of so many locks
@@ -103,16 +102,16 @@ below rank many f low none l on = elim (cases_Bool (ltb l rank)) [
 ]
 
 -- a rank from which on no lock is held, and for none a call waits
-pub above_all : (rank many : ℕ) (cpu : Cpu) → many ≡ locks_of cpu.seat.me.0.who.plan
-    → ((n : ℕ) → rank ≤ n → n < many → holds_in (seats.calls_of cpu).holds n ≡ false)
-    → ((n : ℕ) → rank ≤ n → n < many → waits_in (seats.calls_of cpu).frames n ≡ false) → IsAbove rank (seats.calls_of cpu)
-above_all rank many cpu is unheld unwaited =
+pub above_all : (rank many : ℕ) (cpu : Cpu) → halts cpu.seat.me.0.who.plan.mode ≡ false → many ≡ locks_of cpu.seat.me.0.who.plan
+    → ((n : ℕ) → rank ≤ n → n < many → holds_in (calls_of cpu).holds n ≡ false)
+    → ((n : ℕ) → rank ≤ n → n < many → waits_in (calls_of cpu).frames n ≡ false) → IsAbove rank (calls_of cpu)
+above_all rank many cpu awake is unheld unwaited =
     record {
-      holds = below rank many (holds_in (seats.calls_of cpu).holds)
-          (λ l on. let low = holds_low (locks_of cpu.seat.me.0.who.plan) (holds_in (seats.calls_of cpu).holds) l cpu.noted.marked.none on in
+      holds = below rank many (holds_in (calls_of cpu).holds)
+          (λ l on. let low = holds_low (locks_of cpu.seat.me.0.who.plan) (holds_in (calls_of cpu).holds) l (cpu.noted awake).marked.none on in
           omega (arith, low, is)) unheld;
-      waits = below rank many (waits_in (seats.calls_of cpu).frames)
-          (λ l on. let low = waits_low cpu.notes.order cpu.notes.slow (locks_of cpu.seat.me.0.who.plan) (seats.calls_of cpu).frames l cpu.noted.ordered on in
+      waits = below rank many (waits_in (calls_of cpu).frames)
+          (λ l on. let low = waits_low cpu.notes.order cpu.notes.slow (locks_of cpu.seat.me.0.who.plan) (calls_of cpu).frames l (cpu.noted awake).ordered on in
           omega (arith, low, is)) unwaited;
     }
 

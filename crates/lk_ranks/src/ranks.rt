@@ -5,7 +5,6 @@ ghost use Rattle.lk_domain.specs.Plans.{cpus_of};
 ghost use Rattle.lk_domain.specs.declared.plan.TheConstants.{MOST_CPUS, MOST_LOCKS};
 ghost use Rattle.lk_law.specs.Agree.{halts};
 ghost use Rattle.lk_lock.specs.Cells.{names_of};
-ghost use Rattle.lk_lock.specs.Families.{plan_of};
 ghost use Rattle.lk_lock.specs.Made.{AreMade, AreSharedMade, AreSpins, IsAmong, IsPlanFor};
 ghost use Rattle.lk_lock.specs.Made.{IsSharedAmong, Keeps, KeepsShared};
 ghost use Rattle.lk_lock.specs.Standing.{AllRest};
@@ -175,11 +174,11 @@ impl Ranks {
         requires some { 0 < length self.locks.kinds.items }
         requires kinds { halts mode ≡ true → AreSpins self.locks }
         ensures plan { IfOk result (λ all. IsPlanFor self.locks mode
-            (replicate self.locks.threads 0) 32768 (plan_of all.domain)) }
-        ensures made { IfOk result (λ all. AreMade self.locks (plan_of all.domain)) }
-        ensures shared { IfOk result (λ all. AreSharedMade self.locks (plan_of all.domain)) }
+            (replicate self.locks.threads 0) 32768 all.domain.plan) }
+        ensures made { IfOk result (λ all. AreMade self.locks all.domain.plan) }
+        ensures shared { IfOk result (λ all. AreSharedMade self.locks all.domain.plan) }
         ensures many { IfOk result (λ all. length all.cpus.items ≡ self.locks.threads) }
-        ensures each { IfOk result (λ all. length all.cpus.items ≡ cpus_of (plan_of all.domain)) }
+        ensures each { IfOk result (λ all. length all.cpus.items ≡ cpus_of all.domain.plan) }
         ensures rest { IfOk result (λ all. AllRest all.domain all.cpus.items) }
     {
         self.locks.open(mode)
@@ -197,11 +196,11 @@ impl Ranks {
         requires threads { length topology.sockets.items ≡ self.locks.threads }
         requires turns { 0 < turns }
         ensures plan { IfOk result (λ all. IsPlanFor self.locks mode topology.sockets.items turns
-            (plan_of all.domain)) }
-        ensures made { IfOk result (λ all. AreMade self.locks (plan_of all.domain)) }
-        ensures shared { IfOk result (λ all. AreSharedMade self.locks (plan_of all.domain)) }
+            all.domain.plan) }
+        ensures made { IfOk result (λ all. AreMade self.locks all.domain.plan) }
+        ensures shared { IfOk result (λ all. AreSharedMade self.locks all.domain.plan) }
         ensures many { IfOk result (λ all. length all.cpus.items ≡ self.locks.threads) }
-        ensures each { IfOk result (λ all. length all.cpus.items ≡ cpus_of (plan_of all.domain)) }
+        ensures each { IfOk result (λ all. length all.cpus.items ≡ cpus_of all.domain.plan) }
         ensures rest { IfOk result (λ all. AllRest all.domain all.cpus.items) }
     {
         self.locks.open_on(mode, topology, turns)

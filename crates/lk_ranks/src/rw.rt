@@ -2,10 +2,11 @@
 ghost use Rattle.std.specs.Prelude.{◌≡◌, IfSome, MatchOption, false};
 ghost use Rattle.std.specs.Fn.{FnOnceReturnsAtMut};
 ghost use Rattle.lk_abs.specs.declared.names.Kind.TheVariants.{Rw as shared};
-ghost use Rattle.lk_domain.specs.Calls.{holds_in};
+ghost use Rattle.lk_domain.specs.Calls.{holds_in, terms_of};
 ghost use Rattle.lk_domain.specs.Paths.{HasMissed};
 ghost use Rattle.lk_lock.specs.Ended.{HasKeyOf, KeepsOthers};
-ghost use Rattle.lk_lock.specs.Families.{calls_of, holds_of, number_of, plan_of, terms_in};
+ghost use Rattle.lk_domain.specs.Seats.{calls_of};
+ghost use Rattle.lk_lock.specs.Standing.{holds_of};
 ghost use Rattle.lk_lock.specs.Standing.{HasWritten, HasWrittenOnce, IsAsBefore, IsUnder};
 ghost use Rattle.lk_ranks.specs.Above.{IsAbove, StaysAbove};
 ghost use Rattle.lk_rows.specs.declared.setup.Verb.TheVariants.{TryWrite, Write};
@@ -33,14 +34,14 @@ impl<T> RankedRw<T> {
     /// does. It waits for the lock, so this has to rank above each lock that the processor holds or
     /// waits for.
     pub fn write<R: Wait, U, W: FnOnce(&mut T) -> U>(&self, seat: &mut Seat<'_, R>, work: W) -> U
-        requires lock { IsUnder (plan_of seat.old.domain.now) shared self.now.rw.id.index
+        requires lock { IsUnder seat.old.domain.now.plan shared self.now.rw.id.index
             self.now.rw.cell.table.shared.table_id }
         requires above { IsAbove self.now.rw.id.index (calls_of seat.old.cpu.now) }
         requires callable { W.IsAlwaysCallable work }
         ensures name { seat.new.cpu.ghost_name ≡ seat.old.cpu.ghost_name }
         ensures domain { seat.new.domain.now ≡ seat.old.domain.now }
         ensures before { IsAsBefore seat.old.cpu.now seat.new.cpu.now }
-        ensures path { HasWritten (terms_in seat.old.domain.now) (number_of seat.old.cpu.now)
+        ensures path { HasWritten (terms_of seat.old.domain.now.plan) seat.old.cpu.now.number
             Write self.now.rw.id.index (calls_of seat.old.cpu.now) (calls_of seat.new.cpu.now) }
         ensures done { (x : T) × (y : T) × FnOnceReturnsAtMut W.FnOnce work x result y }
         ensures order { StaysAbove (calls_of seat.old.cpu.now) (calls_of seat.new.cpu.now) }
@@ -55,7 +56,7 @@ impl<T> RankedRw<T> {
         seat: &mut Seat<'_, R>,
         work: W,
     ) -> Option<U>
-        requires lock { IsUnder (plan_of seat.old.domain.now) shared self.now.rw.id.index
+        requires lock { IsUnder seat.old.domain.now.plan shared self.now.rw.id.index
             self.now.rw.cell.table.shared.table_id }
         requires free { holds_in (holds_of seat.old.cpu.now) self.now.rw.id.index ≡ false }
         requires callable { W.IsAlwaysCallable work }
@@ -63,9 +64,9 @@ impl<T> RankedRw<T> {
         ensures domain { seat.new.domain.now ≡ seat.old.domain.now }
         ensures before { IsAsBefore seat.old.cpu.now seat.new.cpu.now }
         ensures path { MatchOption result
-            (HasMissed (terms_in seat.old.domain.now) (number_of seat.old.cpu.now) TryWrite
+            (HasMissed (terms_of seat.old.domain.now.plan) seat.old.cpu.now.number TryWrite
             self.now.rw.id.index (calls_of seat.old.cpu.now) (calls_of seat.new.cpu.now))
-            (λ _. HasWrittenOnce (terms_in seat.old.domain.now) (number_of seat.old.cpu.now)
+            (λ _. HasWrittenOnce (terms_of seat.old.domain.now.plan) seat.old.cpu.now.number
             self.now.rw.id.index (calls_of seat.old.cpu.now) (calls_of seat.new.cpu.now)) }
         ensures done { IfSome result (λ done. (x : T) × (y : T)
             × FnOnceReturnsAtMut W.FnOnce work x done y) }

@@ -4,7 +4,8 @@ ghost use Rattle.std.specs.Fn.{FnOnceReturnsAt, FnOnceReturnsAtMut};
 ghost use Rattle.atomic_table.specs.Seated.{TableId};
 ghost use Rattle.lk_lock.specs.Cells.{names_of};
 ghost use Rattle.lk_lock.specs.Ended.{HasKeyOf, KeepsOthers};
-ghost use Rattle.lk_lock.specs.Families.{calls_of, number_of, plan_of, terms_in};
+ghost use Rattle.lk_domain.specs.Calls.{terms_of};
+ghost use Rattle.lk_domain.specs.Seats.{calls_of};
 ghost use Rattle.lk_lock.specs.Standing.{HasRead, HasWritten, IsAsBefore, IsSharedUnder};
 ghost use Rattle.lk_ranks.specs.Above.{IsAbove, StaysAbove};
 ghost use Rattle.lk_rows.specs.declared.setup.Verb.TheVariants.{Read, Write};
@@ -32,14 +33,14 @@ impl<T> RankedShared<T> {
     /// lock, as `Seat::read` of `lk_lock` does. It waits for writers, so the lock has to rank above
     /// each that the processor holds or waits for.
     pub fn read<R: Wait, U, W: FnOnce(&T) -> U>(&self, seat: &mut Seat<'_, R>, work: W) -> U
-        requires lock { IsSharedUnder (plan_of seat.old.domain.now) self.now.shared.id.index
+        requires lock { IsSharedUnder seat.old.domain.now.plan self.now.shared.id.index
             (names_of self.now.shared.cells.items) }
         requires above { IsAbove self.now.shared.id.index (calls_of seat.old.cpu.now) }
         requires callable { W.IsAlwaysCallable work }
         ensures name { seat.new.cpu.ghost_name ≡ seat.old.cpu.ghost_name }
         ensures domain { seat.new.domain.now ≡ seat.old.domain.now }
         ensures before { IsAsBefore seat.old.cpu.now seat.new.cpu.now }
-        ensures path { HasRead (terms_in seat.old.domain.now) (number_of seat.old.cpu.now) Read
+        ensures path { HasRead (terms_of seat.old.domain.now.plan) seat.old.cpu.now.number Read
             self.now.shared.id.index (calls_of seat.old.cpu.now) (calls_of seat.new.cpu.now) }
         ensures done { (x : T) × FnOnceReturnsAt W.FnOnce work x result }
         ensures order { StaysAbove (calls_of seat.old.cpu.now) (calls_of seat.new.cpu.now) }
@@ -53,14 +54,14 @@ impl<T: Copy + Drop> RankedShared<T> {
     /// work left, and frees the lock, as `Seat::update` of `lk_lock` does. It waits for the lock, so
     /// this has to rank above each that the processor holds or waits for.
     pub fn update<R: Wait, U, W: FnOnce(&mut T) -> U>(&self, seat: &mut Seat<'_, R>, work: W) -> U
-        requires lock { IsSharedUnder (plan_of seat.old.domain.now) self.now.shared.id.index
+        requires lock { IsSharedUnder seat.old.domain.now.plan self.now.shared.id.index
             (names_of self.now.shared.cells.items) }
         requires above { IsAbove self.now.shared.id.index (calls_of seat.old.cpu.now) }
         requires callable { W.IsAlwaysCallable work }
         ensures name { seat.new.cpu.ghost_name ≡ seat.old.cpu.ghost_name }
         ensures domain { seat.new.domain.now ≡ seat.old.domain.now }
         ensures before { IsAsBefore seat.old.cpu.now seat.new.cpu.now }
-        ensures path { HasWritten (terms_in seat.old.domain.now) (number_of seat.old.cpu.now)
+        ensures path { HasWritten (terms_of seat.old.domain.now.plan) seat.old.cpu.now.number
             Write self.now.shared.id.index (calls_of seat.old.cpu.now)
             (calls_of seat.new.cpu.now) }
         ensures done { (x : T) × (y : T) × FnOnceReturnsAtMut W.FnOnce work x result y }

@@ -3,16 +3,18 @@ ghost use Rattle.std.specs.Prelude.{◌≡◌, ℕ, ◌<◌, IfSome, MatchOption
 ghost use Rattle.std.specs.Fn.{FnOnceReturnsAtMut};
 ghost use Rattle.lk_abs.specs.declared.holder.Manner.TheVariants.{Spins};
 ghost use Rattle.lk_abs.specs.declared.names.Kind.TheVariants.{Spin as spinning};
-ghost use Rattle.lk_domain.specs.Calls.{holds_in};
+ghost use Rattle.lk_domain.specs.Calls.{holds_in, terms_of};
 ghost use Rattle.lk_lock.specs.Ended.{HasKeyOf, KeepsOthers};
-ghost use Rattle.lk_lock.specs.Families.{IsAwake, calls_of, holds_of, number_of, plan_of, terms_in};
+ghost use Rattle.lk_domain.specs.Seats.{calls_of};
+ghost use Rattle.lk_law.specs.Agree.{halts};
+ghost use Rattle.lk_lock.specs.Standing.{holds_of};
 ghost use Rattle.lk_lock.specs.Standing.{HasGoneIn, HasOpened, IsAsBefore, IsInside, IsReady, IsUnder};
 ghost use Rattle.lk_lock.specs.Turns.{HasPassed, HasTurned};
-ghost use Rattle.lk_lock.specs.declared.family.AnyCpu.{AnyCpu};
+ghost use Rattle.lk_domain.specs.declared.cpu.Cpu.{Cpu};
 ghost use Rattle.lk_ranks.specs.Above.{IsAbove, StaysAbove};
 ghost use Rattle.lk_rows.specs.declared.setup.Verb.TheVariants.{Lock, Try};
 
-use lk_lock::{AnyCpu, AnyDomain, Held, Keys, Seat, Spin};
+use lk_lock::{Cpu, Domain, Held, Keys, Seat, Spin};
 use std::sync::Wait;
 
 /// A value under a spinlock with a rank.
@@ -38,19 +40,19 @@ impl<T> RankedSpin<T> {
     /// one ranks above all that the processor then holds.
     pub fn lock<'a, R: Wait>(
         &'a self,
-        cpu: &'a mut AnyCpu,
+        cpu: &'a mut Cpu,
         rt: &'a R,
-        domain: &'a AnyDomain,
+        domain: &'a Domain,
     ) -> Held<'a, T, R>
         requires ready { IsReady domain.now cpu.old }
-        requires lock { IsUnder (plan_of domain.now) spinning self.now.spin.id.index
+        requires lock { IsUnder domain.now.plan spinning self.now.spin.id.index
             self.now.spin.cell.table.shared.table_id }
         requires above { IsAbove self.now.spin.id.index (calls_of cpu.old) }
         ensures name { result.cpu.ghost_name ≡ cpu.entry.ghost_name }
         ensures same { (result.domain.now ≡ domain.now) × (result.spin.now ≡ self.now.spin) }
         ensures ready { IsReady domain.now result.cpu.now }
         ensures inside { IsInside result.spin.now.id.index Spins cpu.old result.cpu.now }
-        ensures path { HasGoneIn (terms_in domain.now) (number_of cpu.old) Lock
+        ensures path { HasGoneIn (terms_of domain.now.plan) cpu.old.number Lock
             self.now.spin.id.index (calls_of cpu.old) result.cpu.now }
         ensures open { HasOpened result.spin.now.cell.table.shared.table_id result.place }
         ensures order { (higher : ℕ) → self.now.spin.id.index < higher
@@ -68,7 +70,7 @@ impl<T> RankedSpin<T> {
         work: W,
     ) -> U
         requires ready { IsReady held.old.domain.now held.old.cpu.now }
-        requires lock { IsUnder (plan_of held.old.domain.now) spinning self.now.spin.id.index
+        requires lock { IsUnder held.old.domain.now.plan spinning self.now.spin.id.index
             self.now.spin.cell.table.shared.table_id }
         requires above { IsAbove self.now.spin.id.index (calls_of held.old.cpu.now) }
         requires callable { W.IsAlwaysCallable work }
@@ -78,9 +80,9 @@ impl<T> RankedSpin<T> {
         ensures open { HasOpened held.old.spin.now.cell.table.shared.table_id held.old.place
             → HasOpened held.new.spin.now.cell.table.shared.table_id held.new.place }
         ensures ready { IsReady held.new.domain.now held.new.cpu.now }
-        ensures inside { (before : AnyCpu) → IsInside held.old.spin.now.id.index Spins before
+        ensures inside { (before : Cpu) → IsInside held.old.spin.now.id.index Spins before
             held.old.cpu.now → IsInside held.new.spin.now.id.index Spins before held.new.cpu.now }
-        ensures path { HasTurned (terms_in held.old.domain.now) (number_of held.old.cpu.now) Lock
+        ensures path { HasTurned (terms_of held.old.domain.now.plan) held.old.cpu.now.number Lock
             self.now.spin.id.index (calls_of held.old.cpu.now) (calls_of held.new.cpu.now) }
         ensures done { (x : T) × (y : T) × FnOnceReturnsAtMut W.FnOnce work x result y }
     {
@@ -90,14 +92,14 @@ impl<T> RankedSpin<T> {
     /// Takes the lock, works on its value, and frees it, as `Seat::with` of `lk_lock` does. It waits
     /// for the lock, so this has to rank above each lock that the processor holds or waits for.
     pub fn with<R: Wait, U, W: FnOnce(&mut T) -> U>(&self, seat: &mut Seat<'_, R>, work: W) -> U
-        requires lock { IsUnder (plan_of seat.old.domain.now) spinning self.now.spin.id.index
+        requires lock { IsUnder seat.old.domain.now.plan spinning self.now.spin.id.index
             self.now.spin.cell.table.shared.table_id }
         requires above { IsAbove self.now.spin.id.index (calls_of seat.old.cpu.now) }
         requires callable { W.IsAlwaysCallable work }
         ensures name { seat.new.cpu.ghost_name ≡ seat.old.cpu.ghost_name }
         ensures domain { seat.new.domain.now ≡ seat.old.domain.now }
         ensures before { IsAsBefore seat.old.cpu.now seat.new.cpu.now }
-        ensures path { HasTurned (terms_in seat.old.domain.now) (number_of seat.old.cpu.now) Lock
+        ensures path { HasTurned (terms_of seat.old.domain.now.plan) seat.old.cpu.now.number Lock
             self.now.spin.id.index (calls_of seat.old.cpu.now) (calls_of seat.new.cpu.now) }
         ensures done { (x : T) × (y : T) × FnOnceReturnsAtMut W.FnOnce work x result y }
         ensures order { StaysAbove (calls_of seat.old.cpu.now) (calls_of seat.new.cpu.now) }
@@ -112,8 +114,8 @@ impl<T> RankedSpin<T> {
         seat: &mut Seat<'_, R>,
         work: W,
     ) -> Option<U>
-        requires awake { IsAwake seat.old.domain.now }
-        requires lock { IsUnder (plan_of seat.old.domain.now) spinning self.now.spin.id.index
+        requires awake { halts seat.old.domain.now.plan.mode ≡ false }
+        requires lock { IsUnder seat.old.domain.now.plan spinning self.now.spin.id.index
             self.now.spin.cell.table.shared.table_id }
         requires free { holds_in (holds_of seat.old.cpu.now) self.now.spin.id.index ≡ false }
         requires callable { W.IsAlwaysCallable work }
@@ -121,9 +123,9 @@ impl<T> RankedSpin<T> {
         ensures domain { seat.new.domain.now ≡ seat.old.domain.now }
         ensures before { IsAsBefore seat.old.cpu.now seat.new.cpu.now }
         ensures path { MatchOption result
-            (HasPassed (terms_in seat.old.domain.now) (number_of seat.old.cpu.now)
+            (HasPassed (terms_of seat.old.domain.now.plan) seat.old.cpu.now.number
             self.now.spin.id.index (calls_of seat.old.cpu.now) (calls_of seat.new.cpu.now))
-            (λ _. HasTurned (terms_in seat.old.domain.now) (number_of seat.old.cpu.now) Try
+            (λ _. HasTurned (terms_of seat.old.domain.now.plan) seat.old.cpu.now.number Try
             self.now.spin.id.index (calls_of seat.old.cpu.now) (calls_of seat.new.cpu.now)) }
         ensures done { IfSome result (λ done. (x : T) × (y : T)
             × FnOnceReturnsAtMut W.FnOnce work x done y) }
@@ -137,7 +139,7 @@ impl<T> RankedSpin<T> {
         seat: &mut Seat<'_, R>,
         work: W,
     ) -> Option<U>
-        requires lock { IsUnder (plan_of seat.old.domain.now) spinning self.now.spin.id.index
+        requires lock { IsUnder seat.old.domain.now.plan spinning self.now.spin.id.index
             self.now.spin.cell.table.shared.table_id }
         requires free { holds_in (holds_of seat.old.cpu.now) self.now.spin.id.index ≡ false }
         requires callable { W.IsAlwaysCallable work }
@@ -145,9 +147,9 @@ impl<T> RankedSpin<T> {
         ensures domain { seat.new.domain.now ≡ seat.old.domain.now }
         ensures before { IsAsBefore seat.old.cpu.now seat.new.cpu.now }
         ensures path { MatchOption result
-            (HasPassed (terms_in seat.old.domain.now) (number_of seat.old.cpu.now)
+            (HasPassed (terms_of seat.old.domain.now.plan) seat.old.cpu.now.number
             self.now.spin.id.index (calls_of seat.old.cpu.now) (calls_of seat.new.cpu.now))
-            (λ _. HasTurned (terms_in seat.old.domain.now) (number_of seat.old.cpu.now) Try
+            (λ _. HasTurned (terms_of seat.old.domain.now.plan) seat.old.cpu.now.number Try
             self.now.spin.id.index (calls_of seat.old.cpu.now) (calls_of seat.new.cpu.now)) }
         ensures done { IfSome result (λ done. (x : T) × (y : T)
             × FnOnceReturnsAtMut W.FnOnce work x done y) }

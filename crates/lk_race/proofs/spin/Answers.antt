@@ -1,10 +1,10 @@
 use denote.Param.Send.{sendable}
 use Rattle.std.proofs.Crossing.{crosses}
 use Rattle.lk_lock.proofs.locks.Spin.TheSendSync as spin
-use Rattle.lk_lock.proofs.Crossing.{any_domain_sync}
+use Rattle.lk_domain.proofs.Crossing.{domain_sync}
 use Rattle.lk_race.proofs.spin.Goals as goal
 
 pub on_track-requires-sync-T : goal.on_track-requires-sync-T
 on_track-requires-sync-T g c κs within =
     let value = c.type_bounds.send-V in
-    search (sendable, crosses, any_domain_sync, spin.the_sync) depth 40
+    search (sendable, crosses, domain_sync, spin.the_sync) depth 40

@@ -1,5 +1,4 @@
 use Rattle.lk_lock.specs.Cells.{names_of}
-use Rattle.lk_lock.specs.Families.{plan_of}
 use Rattle.lk_lock.proofs.Laid.{name_at, own_under}
 use Rattle.lk_lock.proofs.working.work_on_own.Goals as goal
 
@@ -7,5 +6,5 @@ pub work_under-requires-clause-cell : goal.work_under-requires-clause-cell
 work_under-requires-clause-cell g c =
     let cells = c.args.shared.now.cells.items in
     let cell = c.get-cell.result.now in
-    (own_under (plan_of c.args.domain.now) c.args.shared.now.id.index (names_of cells) cell.table.shared.table_id c.requires.lock
+    (own_under c.args.domain.now.plan c.args.shared.now.id.index (names_of cells) cell.table.shared.table_id c.requires.lock
     (name_at cells 0 cell c.get-cell.ensures)).cell_is

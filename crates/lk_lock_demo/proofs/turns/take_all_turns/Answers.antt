@@ -2,10 +2,10 @@ use denote.Param.Send.{sendable}
 use Rattle.std.proofs.Crossing.{crosses}
 use Rattle.lk_ranks.proofs.spin.RankedSpin.TheSendSync as ranked
 use Rattle.lk_lock.proofs.locks.Spin.TheSendSync as spin
-use Rattle.lk_lock.proofs.Crossing.{any_domain_sync}
+use Rattle.lk_domain.proofs.Crossing.{domain_sync}
 use Rattle.lk_lock_demo.proofs.turns.take_all_turns.Goals as goal
 
 pub for_each_mut-requires-sync-F : goal.for_each_mut-requires-sync-F
 for_each_mut-requires-sync-F g c κs within =
     let host = c.type_bounds.sync-R in
-    search (sendable, crosses, any_domain_sync, ranked.the_sync, ranked.the_field_sync, spin.the_sync, spin.the_field_sync) depth 40
+    search (sendable, crosses, domain_sync, ranked.the_sync, ranked.the_field_sync, spin.the_sync, spin.the_field_sync) depth 40

@@ -1,14 +1,13 @@
 use Rattle.std.proofs.Common.{◌∙◌, subst, rules}
-use Rattle.lk_lock.specs.Families.{number_of}
 use Rattle.lk_lock.specs.Standing.{IsReady}
-use Rattle.lk_lock.specs.declared.family.AnyDomain.{AnyDomain}
+use Rattle.lk_domain.specs.declared.domain.Domain.{Domain}
 use Rattle.lk_lock.proofs.Resting.{rests_again, still_open}
 use Rattle.lk_ranks.proofs.Ranking.{above_rest}
 use Rattle.lk_lock_demo.proofs.turns.take_turn.Goals as goal
 
 pub lock-held-requires-clause-above : goal.lock-held-requires-clause-above
 lock-held-requires-clause-above g c =
-    above_rest c.args.shop.now.domain.now (number_of c.args.cpu.now) c.args.shop.now.queue.now.spin.id.index c.args.cpu.now c.requires.rests
+    above_rest c.args.shop.now.domain.now c.args.cpu.now.number c.args.shop.now.queue.now.spin.id.index c.args.cpu.now c.requires.rests
 
 pub with_inside-number-requires-clause-above : goal.with_inside-number-requires-clause-above
 with_inside-number-requires-clause-above g c =
@@ -25,14 +24,14 @@ unlock-requires-clause-open g c =
 pub returns-clause-number : goal.returns-clause-number
 returns-clause-number g c =
     let kept = c.unlock.ensures.before c.args.cpu.now (c.with_inside-number.ensures.inside c.args.cpu.now c.lock-held.ensures.inside) in
-    let number = kept.same.one.number in
+    let number = kept.same.number in
     search rules
 
 pub returns-clause-rests : goal.returns-clause-rests
 returns-clause-rests g c =
     let kept = c.unlock.ensures.before c.args.cpu.now (c.with_inside-number.ensures.inside c.args.cpu.now c.lock-held.ensures.inside) in
-    let ready : IsReady c.args.shop.now.domain.now c.unlock.new.self.0 = subst (λ (d : AnyDomain). IsReady d c.unlock.new.self.0) (c.with_inside-number.ensures.same.0 ∙ c.lock-held.ensures.same.0) c.unlock.ensures.ready in
-    let rests = rests_again c.args.shop.now.domain.now (number_of c.args.cpu.now) c.args.cpu.now c.unlock.new.self.0 c.requires.rests ready kept in
+    let ready : IsReady c.args.shop.now.domain.now c.unlock.new.self.0 = subst (λ (d : Domain). IsReady d c.unlock.new.self.0) (c.with_inside-number.ensures.same.0 ∙ c.lock-held.ensures.same.0) c.unlock.ensures.ready in
+    let rests = rests_again c.args.shop.now.domain.now c.args.cpu.now.number c.args.cpu.now c.unlock.new.self.0 c.requires.rests ready kept in
     search rules
 
 pub value-requires : goal.value-requires

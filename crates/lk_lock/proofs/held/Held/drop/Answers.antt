@@ -5,11 +5,11 @@ use Rattle.lk_lock.proofs.held.Held.drop.Goals as goal
 pub free_now-requires-clause-holding : goal.free_now-requires-clause-holding
 free_now-requires-clause-holding g c = (
   c.requires.inside.0,
-  came_home c.args.self.spin.now.id.index Spins c.requires.inside.0 c.args.self.cpu.now c.requires.inside.1 c.bring.new.cpu
-      c.bring.ensures.brought,
+  came_home c.args.self.spin.now.id.index Spins c.requires.inside.0 c.args.self.cpu.now c.requires.inside.1 c.bring_home.new.cpu
+      c.bring_home.ensures.brought,
 )
 
 pub returns-clause-before : goal.returns-clause-before
 returns-clause-before g c b i =
     c.free_now.ensures.before b
-    (came_home c.args.self.spin.now.id.index Spins b c.args.self.cpu.now i c.bring.new.cpu c.bring.ensures.brought)
+    (came_home c.args.self.spin.now.id.index Spins b c.args.self.cpu.now i c.bring_home.new.cpu c.bring_home.ensures.brought)

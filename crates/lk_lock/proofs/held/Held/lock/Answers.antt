@@ -1,26 +1,27 @@
 use Rattle.std.proofs.Common.{refl}
 use Rattle.lk_abs.specs.declared.holder.Manner.TheVariants.{Spins}
 use Rattle.lk_rows.specs.declared.setup.Verb.TheVariants.{Lock}
-use Rattle.lk_lock.specs.Families.{calls_of, number_of, terms_in}
+use Rattle.lk_domain.specs.Seats.{calls_of}
+use Rattle.lk_domain.specs.Calls.{terms_of}
 use Rattle.lk_lock.proofs.Steps.{at_home, gone_in, gone_out, home_again, inside}
 use Rattle.lk_lock.proofs.held.Held.lock.Goals as goal
 
-pub key_of-key-requires-clause-held : goal.key_of-key-requires-clause-held
-key_of-key-requires-clause-held g c =
+pub take_out-key-requires-clause-held : goal.take_out-key-requires-clause-held
+take_out-key-requires-clause-held g c =
     at_home c.args.spin.now.id.index Spins c.args.cpu.now c.take.new.cpu (c.take.ensures).holding refl
 
 pub returns-clause-ready : goal.returns-clause-ready
 returns-clause-ready g c =
-    gone_out c.args.domain.now c.take.new.cpu c.key_of-key.new.cpu (c.take.ensures).ready c.args.spin.now.id.index c.key_of-key.ensures.taken
+    gone_out c.args.domain.now c.take.new.cpu c.take_out-key.new.cpu (c.take.ensures).ready c.args.spin.now.id.index c.take_out-key.ensures.taken
 
 pub returns-clause-inside : goal.returns-clause-inside
 returns-clause-inside g c =
-    inside c.args.spin.now.id.index Spins c.args.cpu.now c.take.new.cpu (c.take.ensures).holding c.key_of-key.new.cpu c.key_of-key.ensures.taken
+    inside c.args.spin.now.id.index Spins c.args.cpu.now c.take.new.cpu (c.take.ensures).holding c.take_out-key.new.cpu c.take_out-key.ensures.taken
 
 pub returns-clause-path : goal.returns-clause-path
 returns-clause-path g c =
     let l = c.args.spin.now.id.index in
     let old = c.args.cpu.now in
     let mid = c.take.new.cpu in
-    gone_in (terms_in c.args.domain.now) (number_of old) Lock l (calls_of old) (calls_of mid) c.key_of-key.new.cpu
-    (home_again l Spins old mid (c.take.ensures).holding c.key_of-key.new.cpu c.key_of-key.ensures.taken) (c.take.ensures).path
+    gone_in (terms_of c.args.domain.now.plan) old.number Lock l (calls_of old) (calls_of mid) c.take_out-key.new.cpu
+    (home_again l Spins old mid (c.take.ensures).holding c.take_out-key.new.cpu c.take_out-key.ensures.taken) (c.take.ensures).path

@@ -1,20 +1,14 @@
-use Rattle.std.proofs.Common.{◌<◌, arith, subst}
-use Rattle.lk_domain.proofs.journals.Heirs.{has_all}
-use Rattle.lk_domain.specs.Plans.{cpus_of}
-use Rattle.lk_domain.specs.Values.{AreLaid}
-use Rattle.lk_domain.specs.declared.plan.Plan.{Plan}
-use Rattle.lk_lock.specs.Families.{plan_of, view_of}
+use Rattle.std.proofs.Common.{Option, sym, subst}
+use Rattle.lk_abs.specs.ListOf.{ListOf}
+use Rattle.lk_domain.specs.Values.{AreLaid, Key}
 use Rattle.lk_lock.proofs.Closings.{all_keys}
+use Rattle.lk_lock.proofs.Resting.{all_end}
 use Rattle.lk_lock.proofs.opening.Open.close.Goals as goal
 
-pub end-requires-clause-all : goal.end-requires-clause-all
-end-requires-clause-all c p lt =
-    has_all view_of c.args.self.cpus.items c.join_all-last.result.me.0 p c.join_all-last.ensures.all
-    (let a = c.requires.all in
-    let b = subst (λ (k : Plan). p < cpus_of k) c.into_parts-table.ensures.plan lt in
-    omega (arith, a, b))
+pub close-requires-clause-rest : goal.close-requires-clause-rest
+close-requires-clause-rest c = all_end c.args.self.domain c.args.self.cpus.items c.requires.rest
 
-pub returns-clause-keys : goal.returns-clause-keys
-returns-clause-keys c =
-    all_keys (plan_of c.args.self.domain) (record { by_lock = c.end.new.keys })
-    (subst (λ (k : Plan). AreLaid k c.end.new.keys.items) c.into_parts-table.ensures.plan c.end.ensures.keys)
+pub returns-in-Ok-clause-keys : goal.returns-in-Ok-clause-keys
+returns-in-Ok-clause-keys c =
+    all_keys c.args.self.domain.plan (record { by_lock = c.into_keys.result })
+    (subst (λ (keys : ListOf (Option Key)). AreLaid c.args.self.domain.plan keys.items) (sym c.into_keys.ensures) c.in-Ok.ensures.keys)

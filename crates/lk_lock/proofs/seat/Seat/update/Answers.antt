@@ -1,6 +1,7 @@
 use Rattle.std.proofs.Common.{refl}
 use Rattle.lk_abs.specs.declared.holder.Manner.TheVariants.{Writes}
-use Rattle.lk_lock.specs.Families.{calls_of, number_of, terms_in}
+use Rattle.lk_domain.specs.Seats.{calls_of}
+use Rattle.lk_domain.specs.Calls.{terms_of}
 use Rattle.lk_rows.specs.declared.parts.Pc.TheVariants.{Z2}
 use Rattle.lk_rows.specs.declared.setup.Verb.TheVariants.{Write}
 use Rattle.lk_lock.proofs.Steps.{at_home, been_in, still_holding, still_once_more}
@@ -38,7 +39,7 @@ returns-clause-before g c =
 pub returns-clause-path : goal.returns-clause-path
 returns-clause-path g c =
     let old = c.args.self.now.cpu.now in
-    been_in (terms_in c.args.self.now.domain.now) (number_of old) Write c.args.shared.now.id.index Writes Z2 (calls_of old)
+    been_in (terms_of c.args.self.now.domain.now.plan) old.number Write c.args.shared.now.id.index Writes Z2 (calls_of old)
     c.enter.new.cpu c.set_copies.new.cpu (calls_of c.leave.new.cpu)
     (still_once_more c.enter.new.cpu c.work_on_own-done.new.cpu c.set_copies.new.cpu c.work_on_own-done.ensures.still
     c.set_copies.ensures)

@@ -1,5 +1,5 @@
 use Rattle.std.proofs.Common.{◌≡◌}
-use Rattle.lk_race.specs.Bares.{Rests}
+use Rattle.lk_lock.specs.Standing.{Rests}
 use Rattle.lk_race.proofs.bare_race.BareRwTrackTrack.take_turns.Given as goal
 
 -- between two turns the processor rests

@@ -1,5 +1,5 @@
 use Rattle.std.proofs.Common.{◌∙◌, sym}
-use Rattle.lk_lock.specs.Families.{calls_of}
+use Rattle.lk_domain.specs.Seats.{calls_of}
 use Rattle.lk_ranks.proofs.Ranking.{above_same, not_held}
 use Rattle.lk_ranks.proofs.spin.RankedSpin.with.Goals as goal
 

@@ -1,4 +1,4 @@
-use Rattle.lk_lock.specs.Families.{calls_of}
+use Rattle.lk_domain.specs.Seats.{calls_of}
 use Rattle.lk_ranks.proofs.Ranking.{not_held}
 use Rattle.lk_ranks.proofs.spin.RankedSpin.with_inside.Goals as goal
 
