@@ -5,8 +5,8 @@ ghost use Rattle.lk_lock.specs.Standing.{AllRest, Rests};
 use lk_abs::List;
 use lk_lock::{Cpu, Domain};
 
-// The last processor of a domain.
-pub(crate) fn last(domain: &Domain, cpus: &mut List<Cpu>) -> Cpu
+/// The last processor of a domain.
+pub fn last(domain: &Domain, cpus: &mut List<Cpu>) -> Cpu
     requires some { 0 < length cpus.old.items }
     requires rest { AllRest domain.now cpus.old.items }
     ensures rests { Rests domain.now (length cpus.new.items) result }
