@@ -1,5 +1,6 @@
 pub mod Status
 pub mod Args
+pub mod Ends
 pub mod OsqRuns
 pub mod Audits
 pub mod Ledgers

@@ -8,12 +8,12 @@ ghost use Rattle.lk_rows.specs.declared.setup.Setup.{Setup};
 ghost use Rattle.lk_text.specs.Causes.{Rose};
 ghost use Rattle.lk_forms.specs.Trace.{Good, Refused, trace};
 ghost use Rattle.lk_forms.specs.declared.answers.LineRefusal.{LineRefusal};
-ghost use Rattle.lk_stream.specs.Outside.{outside};
 ghost use Rattle.lk_stream.specs.Outcome.{refused_fault};
 ghost use Rattle.lk_gen.specs.Generated.{generated};
 ghost use Rattle.lk_words.specs.Reading.{reading_of};
 ghost use Rattle.lk_words.specs.declared.asked.Reading.{Reading};
 ghost use Rattle.lk_command.specs.Args.{AreRead, Asks, AsksReplay, AsksNothing, FoundNoMemory};
+ghost use Rattle.lk_command.specs.Ends.{outside_of};
 ghost use Rattle.lk_command.specs.Status.{note_of, status_of};
 ghost use Rattle.lk_command.specs.OsqRuns.{OsqRuns};
 ghost use Rattle.lk_command.specs.Audits.{Audits};
@@ -96,9 +96,8 @@ fn perform<S: Source, K: Sink, G: Gate, R: Threads + Wait + Sync>(
     gate: &G,
 ) -> Status
     ensures came { CameTo asked (source.new ≡ source.old) (sink.new ≡ sink.old)
-        (outside (S.left source.old) (S.faults source.old) (K.held sink.old) (K.faults sink.old))
-        (outside (S.left source.new) (S.faults source.new) (K.held sink.new) (K.faults sink.new))
-        result }
+        (outside_of S.Source K.Sink source.old sink.old)
+        (outside_of S.Source K.Sink source.new sink.new) result }
     ensures memory { result ≡ Status.Memory → sink.new ≡ sink.old }
 {
     match asked {
@@ -123,9 +122,8 @@ fn obey<S: Source, K: Sink, G: Gate, R: Threads + Wait + Sync>(
 ) -> Status
     ensures { Does (λ reading. Asks reading string_bytes args) (FoundNoMemory args)
         (source.new ≡ source.old) (sink.new ≡ sink.old)
-        (outside (S.left source.old) (S.faults source.old) (K.held sink.old) (K.faults sink.old))
-        (outside (S.left source.new) (S.faults source.new) (K.held sink.new) (K.faults sink.new))
-        result }
+        (outside_of S.Source K.Sink source.old sink.old)
+        (outside_of S.Source K.Sink source.new sink.new) result }
 {
     match asked(alloc, args) {
         Ok(asked) => perform(rt, alloc, asked, source, sink, gate),
@@ -166,10 +164,8 @@ pub fn run<S: Source, K: Sink, N: Sink, G: Gate, R: Threads + Wait + Sync>(
 
     // What each other status of a replay means, in terms of the bytes of the source and the sink.
     ensures means { AsksReplay string_bytes args
-        → Means (outside (S.left source.old) (S.faults source.old) (K.held sink.old)
-        (K.faults sink.old))
-        (outside (S.left source.new) (S.faults source.new) (K.held sink.new)
-        (K.faults sink.new)) result }
+        → Means (outside_of S.Source K.Sink source.old sink.old)
+        (outside_of S.Source K.Sink source.new sink.new) result }
 
     // A trace is replayed whole, where neither count of faults rose and there is memory.
     ensures complete { (bytes : List ℕ) (setup : Setup) (acts : List Act)
@@ -191,43 +187,33 @@ pub fn run<S: Source, K: Sink, N: Sink, G: Gate, R: Threads + Wait + Sync>(
 
     // The same of a run of the spin queue, on its grammar; Done says that its history is lawful.
     ensures osq { Asks Reading.Osq string_bytes args
-        → OsqRuns (outside (S.left source.old) (S.faults source.old) (K.held sink.old)
-        (K.faults sink.old))
-        (outside (S.left source.new) (S.faults source.new) (K.held sink.new)
-        (K.faults sink.new)) result }
+        → OsqRuns (outside_of S.Source K.Sink source.old sink.old)
+        (outside_of S.Source K.Sink source.new sink.new) result }
 
     // A transcript from anybody, behind the header of a trace, is judged: Done says that its
     // history is lawful, and Unlawful at which line it first is not.
     ensures audits { Asks Reading.Audit string_bytes args
-        → Audits (outside (S.left source.old) (S.faults source.old) (K.held sink.old)
-        (K.faults sink.old))
-        (outside (S.left source.new) (S.faults source.new) (K.held sink.new)
-        (K.faults sink.new)) result }
+        → Audits (outside_of S.Source K.Sink source.old sink.old)
+        (outside_of S.Source K.Sink source.new sink.new) result }
 
     // The jobs of a job file are run, each worker's on a thread of its own: Done says that the text of
     // an outcome was written that may come of the file.
     ensures ledger { Asks Reading.Ledger string_bytes args
-        → Ledgers (outside (S.left source.old) (S.faults source.old) (K.held sink.old)
-        (K.faults sink.old))
-        (outside (S.left source.new) (S.faults source.new) (K.held sink.new)
-        (K.faults sink.new)) result }
+        → Ledgers (outside_of S.Source K.Sink source.old sink.old)
+        (outside_of S.Source K.Sink source.new sink.new) result }
 
     // The generated trace is written, and the source is not read.
     ensures generates { (start : ℕ) → Asks (Reading.Gen start) string_bytes args
         → (source.new ≡ source.old)
-        × Writes (outside (S.left source.old) (S.faults source.old) (K.held sink.old)
-        (K.faults sink.old))
-        (outside (S.left source.new) (S.faults source.new) (K.held sink.new)
-        (K.faults sink.new)) (generated start) result }
+        × Writes (outside_of S.Source K.Sink source.old sink.old)
+        (outside_of S.Source K.Sink source.new sink.new) (generated start) result }
 
     // The closing lines of its replay are written, and the source is not read. No line is refused,
     // no limit is passed, and no read fails.
     ensures loads { (start : ℕ) → Asks (Reading.Load start) string_bytes args
         → (source.new ≡ source.old)
-        × Writes (outside (S.left source.old) (S.faults source.old) (K.held sink.old)
-        (K.faults sink.old))
-        (outside (S.left source.new) (S.faults source.new) (K.held sink.new)
-        (K.faults sink.new)) (closing_of start) result }
+        × Writes (outside_of S.Source K.Sink source.old sink.old)
+        (outside_of S.Source K.Sink source.new sink.new) (closing_of start) result }
 
     // The note line was written, or a front of it and a write of it failed.
     ensures noted { IsSaid (N.held notes.old) (N.held notes.new) (N.faults notes.old)

@@ -1,8 +1,8 @@
 // The exit status.
 ghost use Rattle.std.specs.Prelude.{◌≡◌, string_bytes};
 ghost use Rattle.std.specs.Process.{exit_status};
-ghost use Rattle.lk_stream.specs.Outside.{outside};
 ghost use Rattle.lk_command.specs.Args.{Asks, FoundNoMemory};
+ghost use Rattle.lk_command.specs.Ends.{outside_of};
 ghost use Rattle.lk_command.specs.Status.{number_of};
 ghost use Rattle.lk_command.specs.Means.{RunsTo, IsSaid};
 ghost use Rattle.lk_command.specs.declared.status.Status.{Status};
@@ -31,8 +31,8 @@ pub fn answer<S: Source, K: Sink, N: Sink, G: Gate, R: Threads + Wait + Sync>(
     ensures { (status : Status) × (exit_status result ≡ number_of status)
         × RunsTo (λ reading. Asks reading string_bytes args) (FoundNoMemory args)
         (source.new ≡ source.old) (sink.new ≡ sink.old)
-        (outside (S.left source.old) (S.faults source.old) (K.held sink.old) (K.faults sink.old))
-        (outside (S.left source.new) (S.faults source.new) (K.held sink.new) (K.faults sink.new))
+        (outside_of S.Source K.Sink source.old sink.old)
+        (outside_of S.Source K.Sink source.new sink.new)
         (IsSaid (N.held notes.old) (N.held notes.new) (N.faults notes.old)
         (N.faults notes.new)) status }
 {

@@ -1,6 +1,6 @@
 // The command `ledger`.
 ghost use Rattle.std.specs.Prelude.{◌≡◌};
-ghost use Rattle.lk_stream.specs.Outside.{outside};
+ghost use Rattle.lk_command.specs.Ends.{outside_of};
 ghost use Rattle.lk_command.specs.Ledgers.{Ledgers};
 ghost use Rattle.lk_command.specs.declared.status.Status.{Status};
 
@@ -21,10 +21,8 @@ pub(crate) fn run_ledger<S: Source, K: Sink, G: Gate, R: Threads + Wait + Sync>(
     sink: &mut K,
     gate: &G,
 ) -> Status
-    ensures runs { Ledgers
-        (outside (S.left source.old) (S.faults source.old) (K.held sink.old) (K.faults sink.old))
-        (outside (S.left source.new) (S.faults source.new) (K.held sink.new) (K.faults sink.new))
-        result }
+    ensures runs { Ledgers (outside_of S.Source K.Sink source.old sink.old)
+        (outside_of S.Source K.Sink source.new sink.new) result }
     ensures memory { result ≡ Status.Memory → sink.new ≡ sink.old }
 {
     Status::of(ledger(rt, alloc, source, sink, gate))

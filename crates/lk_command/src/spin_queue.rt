@@ -1,6 +1,6 @@
 // The command `osq`.
 ghost use Rattle.std.specs.Prelude.{◌≡◌, ◌≢◌};
-ghost use Rattle.lk_stream.specs.Outside.{outside};
+ghost use Rattle.lk_command.specs.Ends.{outside_of};
 ghost use Rattle.lk_command.specs.OsqRuns.{OsqRuns};
 ghost use Rattle.lk_command.specs.declared.status.Status.{Status};
 
@@ -12,10 +12,8 @@ use std::alloc::Global;
 /// Reads a run of the optimistic spin queue from the source, and writes its transcript to the
 /// sink.
 pub(crate) fn run_osq<S: Source, K: Sink>(alloc: Global, source: &mut S, sink: &mut K) -> Status
-    ensures runs { OsqRuns
-        (outside (S.left source.old) (S.faults source.old) (K.held sink.old) (K.faults sink.old))
-        (outside (S.left source.new) (S.faults source.new) (K.held sink.new) (K.faults sink.new))
-        result }
+    ensures runs { OsqRuns (outside_of S.Source K.Sink source.old sink.old)
+        (outside_of S.Source K.Sink source.new sink.new) result }
     ensures asked { result ≢ Status.Usage }
     ensures memory { result ≡ Status.Memory → sink.new ≡ sink.old }
 {
