@@ -16,7 +16,7 @@ use Rattle.lk_idle.proofs.Lists.{get_or_mapped, set_mapped}
 use Rattle.lk_idle.proofs.FreeNodes.{unowned_freed}
 use Rattle.lk_idle.proofs.Goes.{nodes_rested}
 use Rattle.lk_reach.specs.declared.key.Key.{Key}
-use Rattle.lk_reach.specs.Space.{AreFormed, Folds, Grows, HasForm, HaveForm, IsFoldOf, IsFormed, IsFormOf, IsFront, IsNumberOf}
+use Rattle.lk_reach.specs.Space.{AreFormed, Folds, Grows, HasForm, HaveForm, IsFoldOf, IsFormed, IsFront, IsNumberOf}
 use Rattle.lk_reach.specs.Space.{IsSameKind, Keeps, KeyKeeps, Rests, SameStates, SpaceValue}
 use Rattle.lk_reach.proofs.Kept.{front_at, front_self, keeps_one, one_value, set_other, set_same}
 use Rattle.lk_reach.proofs.Likeness.{cpus_bared}
@@ -258,44 +258,6 @@ none_owns (f ∷ fs) j n all none =
     both false b x y = y
     both true b x y = cc
 
--- the form of a key, place by place
-pub record FormsSo (classes cpus : List ℕ) (form : List ℕ) (n : ℕ) : Type 0 where
-  pub each : (p i : ℕ) → p < n → slice_get cpus p ≡ Some i
-      → (c : ℕ) × (slice_get form p ≡ Some c) × (slice_get classes i ≡ Some c)
-  pub rest : (p : ℕ) → n ≤ p → slice_get form p ≡ slice_get cpus p
-  pub room : length form ≡ length cpus
-
-pub forms_start : (classes cpus : List ℕ) → FormsSo classes cpus cpus 0
-forms_start classes cpus = record {
-  each = λ p i low. absurd (omega (arith, low));
-  rest = λ p low. refl;
-  room = refl;
-}
-
-pub forms_then : (classes cpus form : List ℕ) (n c : ℕ) → n < length form → FormsSo classes cpus form n
-    → ((i : ℕ) → slice_get form n ≡ Some i → slice_get classes i ≡ Some c)
-    → FormsSo classes cpus (set form n c) (n + 1)
-forms_then classes cpus form n c room before is = record {
-  each = λ p i low at. elim (cases_eq p n) [
-    | inl e ↦
-        let here : slice_get form n ≡ Some i =
-        before.rest n (omega arith) ∙ subst (λ (q : ℕ). slice_get cpus q ≡ Some i) e at in
-        (c, subst (λ (q : ℕ). slice_get (set form n c) q ≡ Some c) (sym e) (set_same form n c room), is i here)
-    | inr ne ↦
-        let b = before.each p i (omega (arith, low, ne)) at in
-        (b.0, set_other form n p c ne ∙ b.1, b.2)
-  ];
-  rest = λ p high. set_other form n p c (λ e. absurd (omega (arith, high, e))) ∙ before.rest p (omega (arith, high));
-  room = length-set form n c ∙ before.room;
-}
-
-pub forms_all : (classes : List ℕ) (key : Key) (form : List ℕ) (n : ℕ) → length key.cpus ≤ n
-    → FormsSo classes key.cpus form n → IsFormOf classes key (record { shared = key.shared; cpus = form })
-forms_all classes key form n most all = record {
-  shared = refl;
-  each = λ p i at. let low = slice_get_within key.cpus p i at in all.each p i (omega (arith, low, most)) at;
-}
-
 -- keys of the same form keep states that are alike
 same_parts : (v : SpaceValue) (a b : Key) (s t : Machine) → AreFormed v.parts v.forms v.classes
     → HaveForm v.classes a b → KeyKeeps v.parts v.shareds a s → KeyKeeps v.parts v.shareds b t
@@ -303,17 +265,19 @@ same_parts : (v : SpaceValue) (a b : Key) (s t : Machine) → AreFormed v.parts 
 same_parts v a b s t formed have x y p low also =
     let i = x.each p low in
     let j = y.each p also in
-    let c = have.one.each p i.0 i.1 in
-    let d = have.other.each p j.0 j.1 in
-    let same : c.0 ≡ d.0 = one_value (slice_get have.form.cpus p) c.0 d.0 c.1 d.1 in
-    let f = formed i.0 c.0 c.2 in
-    let g = formed j.0 d.0 d.2 in
-    let form : f.form ≡ g.form = one_value (slice_get v.forms d.0) f.form g.form
-    (subst (λ (n : ℕ). slice_get v.forms n ≡ Some f.form) same f.is_form) g.is_form in
-    let one : f.part ≡ cpu_at s p = one_value (slice_get v.parts i.0) f.part (cpu_at s p) f.is_part i.2 in
-    let other : g.part ≡ cpu_at t p = one_value (slice_get v.parts j.0) g.part (cpu_at t p) g.is_part j.2 in
-    ap (λ (z : CpuState). bared_cpu z) (sym one) ∙ sym f.alike ∙ ap (λ (z : CpuState). bared_cpu z) form
-    ∙ g.alike ∙ ap (λ (z : CpuState). bared_cpu z) other
+    elim (have.each p i.0 j.0 i.1 j.1) [
+      | inl same ↦
+          ap (λ (z : CpuState). bared_cpu z) (one_value (slice_get v.parts j.0) (cpu_at s p) (cpu_at t p)
+          (subst (λ (n : ℕ). slice_get v.parts n ≡ Some (cpu_at s p)) same i.2) j.2)
+      | inr class ↦
+          let f = formed i.0 class.0 class.1 in
+          let g = formed j.0 class.0 class.2 in
+          let form : f.form ≡ g.form = one_value (slice_get v.forms class.0) f.form g.form f.is_form g.is_form in
+          let one : f.part ≡ cpu_at s p = one_value (slice_get v.parts i.0) f.part (cpu_at s p) f.is_part i.2 in
+          let other : g.part ≡ cpu_at t p = one_value (slice_get v.parts j.0) g.part (cpu_at t p) g.is_part j.2 in
+          ap (λ (z : CpuState). bared_cpu z) (sym one) ∙ sym f.alike ∙ ap (λ (z : CpuState). bared_cpu z) form
+          ∙ g.alike ∙ ap (λ (z : CpuState). bared_cpu z) other
+    ]
 
 part_bared : (m : Machine) (p : ℕ) → get_or (bared m).cpus p no_cpu ≡ bared_cpu (cpu_at m p)
 unfolding cpu_at
@@ -326,7 +290,7 @@ pub form_alike : (v : SpaceValue) (a b : Key) (s t : Machine) → AreFormed v.pa
     → s.setup ≡ t.setup → s.counts ≡ t.counts → length s.cpus ≡ length t.cpus → AreAlike s t
 form_alike v a b s t formed have x y setup counts cpus =
     let at : slice_get v.shareds a.shared ≡ slice_get v.shareds b.shared =
-    ap (λ (n : ℕ). slice_get v.shareds n) (sym have.one.shared ∙ have.other.shared) in
+    ap (λ (n : ℕ). slice_get v.shareds n) have.shared in
     let item : x.shared.item ≡ y.shared.item =
     one_value (slice_get v.shareds b.shared) x.shared.item y.shared.item (sym at ∙ x.shared.is) y.shared.is in
     let locks : s.locks ≡ t.locks =

@@ -1,6 +1,6 @@
 -- States that stand for others: where states are folded, one is kept of those that differ only in the
 -- numbers of processors that are alike.
-use Rattle.std.specs.Prelude.{◌≡◌, ◌<◌, ◌≤◌, ℕ, true, false, length}
+use Rattle.std.specs.Prelude.{◌≡◌, ◌<◌, ◌≤◌, ℕ, Some, true, false, length, slice_get}
 use Rattle.lk_abs.specs.declared.events.Act.{Act}
 use Rattle.lk_rows.specs.declared.parts.Pc.{Pc}
 use Rattle.lk_rows.specs.declared.setup.Setup.{Setup}
@@ -45,7 +45,8 @@ pub record HaveFolds (plan : Plan) (setup : Setup) (v : SpaceValue) : Type 0 whe
 pub record IsHere (plan : Plan) (setup : Setup) (v : SpaceValue) (here : Here) : Type 0 where
   pub begun : IsBegun plan setup
   pub state : Machine
-  pub keeps : Keeps v here.state state
+  pub keeps : Keeps v here.spot.state state
+  pub key : slice_get v.keys here.spot.state ≡ Some here.spot.key
   pub reached : IsReached plan setup state
   pub folds : plan.folds ≡ true → HaveFolds plan setup v
   pub moves : plan.folds ≡ true → AreMoves plan.extras setup here.way.items
@@ -53,7 +54,7 @@ pub record IsHere (plan : Plan) (setup : Setup) (v : SpaceValue) (here : Here) :
 
 -- the machine is the state behind an act on this one
 abbrev pub IsBehind : Plan → Setup → SpaceValue → Here → Act → Machine → Type 0
-IsBehind plan setup v here doing m = (s : Machine) → Keeps v here.state s → IsReached plan setup s → m ≡ after s doing
+IsBehind plan setup v here doing m = (s : Machine) → Keeps v here.spot.state s → IsReached plan setup s → m ≡ after s doing
 
 -- The number is that of a state that stands for the machine. If it is that of the state that is left, that differs
 -- from the machine in what nobody reads alone. Each new number is this one, and that of the machine itself.

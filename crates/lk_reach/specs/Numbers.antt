@@ -1,10 +1,11 @@
 -- Numbers in as many bytes as they need, and lists of them.
 use Rattle.std.specs.Prelude.{◌≡◌, ◌≢◌, ◌≤◌, ◌+◌, ◌*◌, ◌/◌, ◌%◌, ◌++◌, [], ◌∷◌, ℕ, zero, suc, List, length, slice_index_or}
 use Rattle.std.specs.Int.{from_le_bytes, w32}
-use Rattle.lk_reach.specs.declared.fours.Fours.{Fours}
+use Rattle.lk_reach.specs.declared.numbers.fours.Fours.{Fours}
 use Rattle.lk_reach.specs.declared.key.Key.{Key}
 use Rattle.lk_reach.specs.declared.numbers.Numbers.{Numbers}
 use Rattle.lk_reach.specs.declared.origin.Origin.{Origin}
+use Rattle.lk_reach.specs.declared.numbers.places.Places.{Places}
 
 -- the values of a function at the first numbers
 abbrev pub listed : {A : Type 0} → ℕ → (ℕ → A) → List A
@@ -30,6 +31,10 @@ number_at n i = from_le_bytes w32 (slice_index_or n.first.items i 0 ∷ slice_in
 pub record PutsNumber (old new : Numbers) (at number : ℕ) : Type 0 where
   pub here : number_at new at ≡ number
   pub others : (i : ℕ) → i ≢ at → number_at new i ≡ number_at old i
+
+-- the lower bytes of a number, if none was put
+abbrev pub no_lower : List ℕ
+no_lower = 0 ∷ 0 ∷ 0 ∷ []
 
 -- one of a list's numbers, or 0
 abbrev pub nth : List ℕ → ℕ → ℕ
@@ -63,10 +68,21 @@ pub record PutsFour (old new : Fours) (at : ℕ) (four : List ℕ) : Type 0 wher
   pub here : four_at new at ≡ firsts four
   pub others : (i : ℕ) → i ≢ at → four_at new i ≡ four_at old i
 
+-- the number of a state at a position
+abbrev pub place_at : Places → ℕ → ℕ
+place_at n i =
+    let lower = slice_index_or n.lower.items i no_lower in
+    from_le_bytes w32 (nth lower 0 ∷ nth lower 1 ∷ nth lower 2 ∷ slice_index_or n.upper.items i 0 ∷ [])
+
+-- it stands at a position, and the others are as before
+pub record PutsPlace (old new : Places) (at number : ℕ) : Type 0 where
+  pub here : place_at new at ≡ number
+  pub others : (i : ℕ) → i ≢ at → place_at new i ≡ place_at old i
+
 -- the key at a position
 abbrev pub key_at : Numbers → Fours → Fours → ℕ → Key
 key_at shared first others i = record { shared = number_at shared i; cpus = four_at first i ++ four_at others i }
 
 -- the origin at a position
-abbrev pub origin_at : Numbers → Numbers → Numbers → ℕ → Origin
-origin_at states acts levels i = record { state = number_at states i; act = number_at acts i; level = number_at levels i }
+abbrev pub origin_at : Places → Numbers → Numbers → ℕ → Origin
+origin_at states acts levels i = record { state = place_at states i; act = number_at acts i; level = number_at levels i }

@@ -38,21 +38,18 @@ pub record IsFormed (parts forms : List CpuState) (i c : ℕ) : Type 0 where
 abbrev pub AreFormed : List CpuState → List CpuState → List ℕ → Type 0
 AreFormed parts forms classes = (i c : ℕ) → slice_get classes i ≡ Some c → IsFormed parts forms i c
 
--- these parts have these classes
-abbrev pub AreClasses : List ℕ → List ℕ → List ℕ → Type 0
-AreClasses classes parts forms = (p i : ℕ) → slice_get parts p ≡ Some i
-    → (c : ℕ) × (slice_get forms p ≡ Some c) × (slice_get classes i ≡ Some c)
+-- two parts are the same one, or have the same class
+abbrev pub IsLikePart : List ℕ → ℕ → ℕ → Type 0
+IsLikePart classes i j = (i ≡ j) ⊎ ((c : ℕ) × (slice_get classes i ≡ Some c) × (slice_get classes j ≡ Some c))
 
--- the form is that of the key: the classes of its parts
-pub record IsFormOf (classes : List ℕ) (key form : Key) : Type 0 where
-  pub shared : form.shared ≡ key.shared
-  pub each : AreClasses classes key.cpus form.cpus
+-- these parts are like those, one by one
+abbrev pub AreLikeParts : List ℕ → List ℕ → List ℕ → Type 0
+AreLikeParts classes parts others = (p i j : ℕ) → slice_get parts p ≡ Some i → slice_get others p ≡ Some j → IsLikePart classes i j
 
 -- two keys have the same form
 pub record HaveForm (classes : List ℕ) (a b : Key) : Type 0 where
-  pub form : Key
-  pub one : IsFormOf classes a form
-  pub other : IsFormOf classes b form
+  pub shared : a.shared ≡ b.shared
+  pub each : AreLikeParts classes a.cpus b.cpus
 
 -- the key of this number is this one, or has the same form
 pub record IsNumberOf (v : SpaceValue) (k : ℕ) (key : Key) : Type 0 where

@@ -91,6 +91,7 @@ fn with_edge(edges: usize, state: u32, then: u32) -> Result<usize, Memory>
 }
 
 // Writes down how a state was met, if it is the next one.
+#[inline]
 fn add_origin(origins: &mut Origins, then: u32, origin: Origin) -> Result<(), Memory>
     ensures { OnOk result (AddsOrigin origins.old origins.new then origin) }
 {
@@ -140,7 +141,7 @@ fn origin_of(origins: &Origins, state: usize, act: usize) -> Result<Origin, Memo
     if state >= origins.len() || state >= MOST_STATES || act >= MOST_ACTS {
         return Err(Memory);
     }
-    let level = origins.at(state).level;
+    let level = origins.level_at(state);
     if level >= MOST_LEVELS {
         return Err(Memory);
     }
@@ -241,9 +242,10 @@ impl Book {
         ensures { (o : OriginValue) → slice_get self.now.origins state ≡ Some o
             → result ≡ o.level }
     {
-        match self.origins.get(state) {
-            Some(origin) => origin.level,
-            None => 0,
+        if state < self.origins.len() {
+            self.origins.level_at(state)
+        } else {
+            0
         }
     }
 

@@ -1,9 +1,9 @@
 // Where an act of a plan led.
 
 ghost use Rattle.std.specs.Prelude.{◌≡◌, ◌++◌, ◌∷◌, [], IfNone, IfSome, List, None, OnOk, Some, ℕ, slice_get};
-ghost use Rattle.lk_reach.specs.Numbers.{listed, number_at};
+ghost use Rattle.lk_reach.specs.Numbers.{listed, place_at};
 
-use crate::numbers::Numbers;
+use crate::numbers::places::Places;
 use crate::table::MOST;
 use lk_abs::Memory;
 use std::alloc::Global;
@@ -14,13 +14,13 @@ use std::marker::Model;
 #[derive(Drop)]
 pub(crate) struct Column {
     count: usize,
-    numbers: Numbers,
+    numbers: Places,
 }
 
 impl Model for Column {
     ghost Value = { List ℕ };
 
-    ghost view = { λ c. listed c.count (λ at. number_at c.numbers at) };
+    ghost view = { λ c. listed c.count (λ at. place_at c.numbers at) };
 }
 
 impl Column {
@@ -30,7 +30,7 @@ impl Column {
     {
         Column {
             count: 0,
-            numbers: Numbers::new(alloc),
+            numbers: Places::new(alloc),
         }
     }
 

@@ -1,6 +1,6 @@
 // Who tries the acts of an exploration: a machine, and helpers that try them ahead of it.
 
-ghost use Rattle.std.specs.Prelude.{◌≡◌, IfSome, Some, false, slice_get};
+ghost use Rattle.std.specs.Prelude.{◌≡◌, [], IfSome, Some, false, slice_get};
 ghost use Rattle.lk_reach.specs.Helped.{AreHelpers, IsOneOf, MayLook};
 
 use crate::found::Finding;
@@ -8,7 +8,9 @@ use crate::helper::Helper;
 use crate::helpers::{Helpers, Part, look_at};
 use crate::plan::Plan;
 use crate::space::Space;
+use crate::steps::Steps;
 use lk_machine::Machine;
+use std::alloc::Global;
 use std::thread::Threads;
 
 // How many states are tried ahead at most, so that what is found of them stays in the caches of the
@@ -25,6 +27,8 @@ const LEAST_AHEAD: usize = 128;
 #[derive(Drop)]
 pub(crate) struct Crew<'a, R> {
     pub machine: Machine,
+    /// Steps that the machine made.
+    pub steps: Steps,
     pub helpers: Helpers<'a, R>,
     /// The acts were tried ahead on states below this one.
     ahead: usize,
@@ -53,12 +57,14 @@ fn fitting(width: usize, tried: usize, taken: usize) -> usize {
 
 impl<'a, R: Threads + Sync> Crew<'a, R> {
     /// A machine and helpers that have not begun.
-    pub(crate) fn new(machine: Machine, helpers: Helpers<'a, R>) -> Crew<'a, R>
+    pub(crate) fn new(alloc: Global, machine: Machine, helpers: Helpers<'a, R>) -> Crew<'a, R>
         ensures machine { result.machine ≡ machine }
+        ensures steps { result.steps.made.items ≡ [] }
         ensures helpers { result.helpers.list.items ≡ helpers.entry.list.items }
     {
         Crew {
             machine,
+            steps: Steps::none(alloc),
             helpers,
             ahead: 0,
             at: 0,
@@ -77,14 +83,9 @@ impl<'a, R: Threads + Sync> Crew<'a, R> {
         machine
     }
 
-    // How many states are tried ahead next: one where a single helper is at work, since nobody waits for it
-    // and it knows all that was met then.
-    fn next_width(&self) -> usize {
-        if self.helpers.list.len() == 1 {
-            1
-        } else {
-            fitting(self.width, self.tried, self.taken)
-        }
+    // Whether helpers try acts ahead. A single one does not: nobody waits for it meanwhile.
+    fn looks(&self, plan: &Plan) -> bool {
+        !plan.folds && self.helpers.list.len() > 1
     }
 
     /// Lets the helpers try the acts on this state and the next ones, if they have not done so, and
@@ -97,14 +98,15 @@ impl<'a, R: Threads + Sync> Crew<'a, R> {
             self.new.helpers.list.items }
         ensures space { space.new ≡ space.old }
         ensures machine { self.new.machine ≡ self.old.machine }
+        ensures steps { self.new.steps ≡ self.old.steps }
     {
-        if plan.folds || state < self.ahead {
+        if state < self.ahead || !self.looks(plan) {
             return;
         }
-        let width = self.next_width();
+        let width = fitting(self.width, self.tried, self.taken);
         let to = space.len().min(state.saturating_add(width));
         let count = to.saturating_sub(state);
-        if count < LEAST_AHEAD.min(width) {
+        if count < LEAST_AHEAD {
             return;
         }
         let rt = self.helpers.rt;
@@ -123,6 +125,7 @@ impl<'a, R: Threads + Sync> Crew<'a, R> {
     fn turn(&mut self)
         ensures helpers { self.new.helpers.list.items ≡ self.old.helpers.list.items }
         ensures machine { self.new.machine ≡ self.old.machine }
+        ensures steps { self.new.steps ≡ self.old.steps }
     {
         for _gone in 0..self.helpers.list.len() {
             let Some(helper) = self.helpers.list.get(self.at) else {
@@ -154,6 +157,7 @@ impl<'a, R: Threads + Sync> Crew<'a, R> {
         ensures plain { IfSome result (λ f. plan.now.folds ≡ false) }
         ensures helpers { self.new.helpers.list.items ≡ self.old.helpers.list.items }
         ensures machine { self.new.machine ≡ self.old.machine }
+        ensures steps { self.new.steps ≡ self.old.steps }
     {
         if plan.folds || state >= self.ahead {
             return None;

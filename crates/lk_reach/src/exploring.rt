@@ -1,6 +1,6 @@
 // The exploration.
 
-ghost use Rattle.std.specs.Prelude.{◌≡◌, ◌<◌, ◌≤◌, ◌+◌, ℕ, List, IfOk, OnOk, Some, length, slice_get, true};
+ghost use Rattle.std.specs.Prelude.{◌≡◌, ◌<◌, ◌≤◌, ◌+◌, ℕ, List, IfOk, OnOk, Some, length, slice_get, true, false};
 ghost use Rattle.lk_abs.specs.declared.events.Act.{Act as ActValue};
 ghost use Rattle.lk_rows.specs.Acts.{next};
 ghost use Rattle.lk_rows.specs.Machine.{Machine as MachineValue};
@@ -9,12 +9,16 @@ ghost use Rattle.lk_reach.specs.Reach.{AreMoves, IsBegun, IsMove, IsReached, aft
 ghost use Rattle.lk_reach.specs.Folded.{IsHere, IsNoted};
 ghost use Rattle.lk_reach.specs.Helped.{AreFresh, AreHelpers, IsSettled};
 ghost use Rattle.lk_reach.specs.Space.{Folds, Keeps};
+ghost use Rattle.lk_reach.specs.Steps.{AreMade};
 ghost use Rattle.lk_reach.specs.Explored.{AreColumns, IsExplored, IsGood, IsNew, IsStart, IsSuch, KnowsLike, OnlyMoves};
 ghost use Rattle.lk_reach.specs.Told.{IsGraph, IsWhole};
 
+mod anew;
+
 use crate::book::{Book, Seen};
 use crate::crew::Crew;
-use crate::folding::{Here, note};
+use crate::exploring::anew::lead_anew;
+use crate::folding::{Here, fold};
 use crate::found::Then;
 use crate::graph::Graph;
 use crate::helpers::Helpers;
@@ -22,6 +26,7 @@ use crate::making::make;
 use crate::path::path_to;
 use crate::plan::Plan;
 use crate::space::Space;
+use crate::spot::Spot;
 use crate::table::MOST;
 use lk_abs::{Act, Event, Memory};
 use lk_core::{acts_change_little, runs_keep};
@@ -35,9 +40,9 @@ pub trait Watch {
     fn goes_on(&mut self, seen: Seen) -> bool;
 }
 
-// Makes an act on the state that is left. Returns the number of the state after it, or of one that
-// stands for that, and the event.
-fn visit(
+// Makes an act on the state that is left, where states are folded. Returns the number of a state that
+// stands for the one after it, and the event.
+fn visit_folded(
     space: &mut Space,
     machine: &mut Machine,
     plan: &Plan,
@@ -47,19 +52,87 @@ fn visit(
     requires few { length machine.old.cpus ≤ 8 }
     requires such { IsSuch machine.old.setup machine.old }
     requires here { IsHere plan.now machine.old.setup space.old here.now }
+    requires folds { plan.now.folds ≡ true }
     requires moves { IsMove plan.now.extras machine.old.setup doing }
-    ensures noted { IfOk result (λ found. (s : MachineValue) → Keeps space.old here.now.state s
+    ensures noted { IfOk result (λ found. (s : MachineValue) → Keeps space.old here.now.spot.state s
         → IsReached plan.now machine.old.setup s
-        → IsNoted plan.now machine.old.setup space.old space.new here.now.state
+        → IsNoted plan.now machine.old.setup space.old space.new here.now.spot.state
         (after s doing) found.0) }
-    ensures told { IfOk result (λ found. (s : MachineValue) → Keeps space.old here.now.state s
+    ensures told { IfOk result (λ found. (s : MachineValue) → Keeps space.old here.now.spot.state s
         → IsReached plan.now machine.old.setup s → found.1 ≡ (next s doing).1) }
     ensures such { OnOk result (IsSuch machine.old.setup machine.new) }
 {
-    space.load(here.state, machine);
+    space.load(here.spot.state, machine);
     let event = make(machine, doing);
-    let number = note(space, machine, plan, here, doing)?;
+    let number = fold(space, machine, plan, here, doing)?;
     Ok((number, event))
+}
+
+// Where an act leads from the state that is left, where no states are folded, and what it tells: as it
+// is remembered, and else by making it.
+fn visit_plain<R: Threads + Sync>(
+    space: &mut Space,
+    crew: &mut Crew<'_, R>,
+    plan: &Plan,
+    here: &Here,
+    doing: Act,
+) -> Result<(u32, Option<Event>), Memory>
+    requires few { length crew.old.machine.cpus ≤ 8 }
+    requires such { IsSuch crew.old.machine.setup crew.old.machine }
+    requires here { IsHere plan.now crew.old.machine.setup space.old here.now }
+    requires plain { plan.now.folds ≡ false }
+    requires moves { IsMove plan.now.extras crew.old.machine.setup doing }
+    requires made { AreMade crew.old.machine.setup space.old crew.old.steps.made.items }
+    ensures noted { IfOk result (λ found. (s : MachineValue) → Keeps space.old here.now.spot.state s
+        → IsReached plan.now crew.old.machine.setup s
+        → IsNoted plan.now crew.old.machine.setup space.old space.new here.now.spot.state
+        (after s doing) found.0) }
+    ensures told { IfOk result (λ found. (s : MachineValue) → Keeps space.old here.now.spot.state s
+        → IsReached plan.now crew.old.machine.setup s → found.1 ≡ (next s doing).1) }
+    ensures such { OnOk result (IsSuch crew.old.machine.setup crew.new.machine) }
+    ensures made { OnOk result
+        (AreMade crew.old.machine.setup space.new crew.new.steps.made.items) }
+    ensures helpers { crew.new.helpers.list.items ≡ crew.old.helpers.list.items }
+{
+    let _ = plan;
+    let spot = &here.spot;
+    let led = lead_anew(space, &mut crew.machine, &mut crew.steps, spot, doing)?;
+    let number = space.note_key(&led.key, led.hash)?;
+    Ok((number, led.event))
+}
+
+// Where an act leads from the state that is left, and what it tells.
+fn visit<R: Threads + Sync>(
+    space: &mut Space,
+    crew: &mut Crew<'_, R>,
+    plan: &Plan,
+    here: &Here,
+    doing: Act,
+) -> Result<(u32, Option<Event>), Memory>
+    requires few { length crew.old.machine.cpus ≤ 8 }
+    requires such { IsSuch crew.old.machine.setup crew.old.machine }
+    requires here { IsHere plan.now crew.old.machine.setup space.old here.now }
+    requires moves { IsMove plan.now.extras crew.old.machine.setup doing }
+    requires made { AreMade crew.old.machine.setup space.old crew.old.steps.made.items }
+    ensures noted { IfOk result (λ found. (s : MachineValue)
+        → Keeps space.old here.now.spot.state s → IsReached plan.now crew.old.machine.setup s
+        → IsNoted plan.now crew.old.machine.setup space.old space.new here.now.spot.state
+        (after s doing) found.0) }
+    ensures told { IfOk result (λ found. (s : MachineValue)
+        → Keeps space.old here.now.spot.state s → IsReached plan.now crew.old.machine.setup s
+        → found.1 ≡ (next s doing).1) }
+    ensures such { OnOk result (IsSuch crew.old.machine.setup crew.new.machine) }
+    ensures made { OnOk result
+        (AreMade crew.old.machine.setup space.new crew.new.steps.made.items) }
+    ensures helpers { crew.new.helpers.list.items ≡ crew.old.helpers.list.items }
+{
+    if plan.folds {
+        let found = visit_folded(space, &mut crew.machine, plan, here, doing)?;
+        Ok(found)
+    } else {
+        let found = visit_plain(space, crew, plan, here, doing)?;
+        Ok(found)
+    }
 }
 
 // The number of the state to which an act led, or of one that stands for it. It gets one if there is
@@ -70,7 +143,7 @@ fn settle(space: &mut Space, then: &Then) -> Result<u32, Memory>
     match then {
         Then::Known(number) => Ok(*number),
         Then::New(key) => {
-            let number = space.note_key(key)?;
+            let number = space.note_unseen(key)?;
             Ok(number)
         }
     }
@@ -90,27 +163,30 @@ fn lead<R: Threads + Sync>(
     requires here { IsHere plan.now crew.old.machine.setup space.old here.now }
     requires act { number < length plan.now.acts.items }
     requires moves { OnlyMoves plan.now.extras crew.old.machine.setup plan.now.acts.items }
+    requires made { AreMade crew.old.machine.setup space.old crew.old.steps.made.items }
     requires helpers { AreHelpers plan.now crew.old.machine.setup space.old
         crew.old.helpers.list.items }
     ensures noted { IfOk result (λ found. (s : MachineValue) (a : ActValue)
-        → slice_get plan.now.acts.items number ≡ Some a → Keeps space.old here.now.state s
+        → slice_get plan.now.acts.items number ≡ Some a → Keeps space.old here.now.spot.state s
         → IsReached plan.now crew.old.machine.setup s
-        → IsNoted plan.now crew.old.machine.setup space.old space.new here.now.state
+        → IsNoted plan.now crew.old.machine.setup space.old space.new here.now.spot.state
         (after s a) found.0) }
     ensures told { IfOk result (λ found. (s : MachineValue) (a : ActValue)
-        → slice_get plan.now.acts.items number ≡ Some a → Keeps space.old here.now.state s
+        → slice_get plan.now.acts.items number ≡ Some a → Keeps space.old here.now.spot.state s
         → IsReached plan.now crew.old.machine.setup s → found.1 ≡ (next s a).1) }
     ensures such { OnOk result (IsSuch crew.old.machine.setup crew.new.machine) }
+    ensures made { OnOk result
+        (AreMade crew.old.machine.setup space.new crew.new.steps.made.items) }
     ensures helpers { OnOk result (AreHelpers plan.now crew.old.machine.setup space.new
         crew.new.helpers.list.items) }
 {
-    match crew.take(plan, here.state, number) {
+    match crew.take(plan, here.spot.state, number) {
         Some(finding) => {
             let then = settle(space, &finding.then)?;
             Ok((then, finding.event))
         }
         None => {
-            let found = visit(space, &mut crew.machine, plan, here, plan.act(number))?;
+            let found = visit(space, crew, plan, here, plan.act(number))?;
             Ok(found)
         }
     }
@@ -120,7 +196,9 @@ fn lead<R: Threads + Sync>(
 fn here_at(plan: &Plan, book: &Book, space: &Space, state: usize) -> Result<Here, Memory>
     requires low { AreLow plan.now book.now }
     requires there { state < length book.now.origins }
-    ensures state { IfOk result (λ here. here.state ≡ state) }
+    requires met { state < length space.now.keys }
+    ensures state { IfOk result (λ here. here.spot.state ≡ state) }
+    ensures key { IfOk result (λ here. slice_get space.now.keys state ≡ Some here.spot.key) }
     ensures way { IfOk result (λ here. plan.now.folds ≡ true
         → IsPath plan.now book.now 0 state here.way.items) }
 {
@@ -130,7 +208,10 @@ fn here_at(plan: &Plan, book: &Book, space: &Space, state: usize) -> Result<Here
     } else {
         Vec::new(alloc)
     };
-    Ok(Here { state, way })
+    let key = space.key_at(state);
+    let hash = space.hash_of(&key);
+    let spot = Spot { state, key, hash };
+    Ok(Here { spot, way })
 }
 
 // Makes every act on a state.
@@ -144,6 +225,7 @@ fn leave<R: Threads + Sync>(
     requires few { length crew.old.machine.cpus ≤ 8 }
     requires begun { IsBegun plan.now crew.old.machine.setup }
     requires such { IsSuch crew.old.machine.setup crew.old.machine }
+    requires made { AreMade crew.old.machine.setup space.old crew.old.steps.made.items }
     requires helpers { AreHelpers plan.now crew.old.machine.setup space.old
         crew.old.helpers.list.items }
     requires there { state < length space.old.keys }
@@ -155,6 +237,8 @@ fn leave<R: Threads + Sync>(
         (AreColumns book.new (length plan.now.acts.items) (state + 1) 0) }
     ensures such { OnOk result (IsSuch crew.old.machine.setup crew.new.machine) }
     ensures setup { OnOk result (crew.new.machine.setup ≡ crew.old.machine.setup) }
+    ensures made { OnOk result
+        (AreMade crew.old.machine.setup space.new crew.new.steps.made.items) }
     ensures helpers { OnOk result (AreHelpers plan.now crew.old.machine.setup space.new
         crew.new.helpers.list.items) }
 {
@@ -181,6 +265,7 @@ fn leave_all<W: Watch, R: Threads + Sync>(
     requires few { length crew.old.machine.cpus ≤ 8 }
     requires begun { IsBegun plan.now crew.old.machine.setup }
     requires such { IsSuch crew.old.machine.setup crew.old.machine }
+    requires made { AreMade crew.old.machine.setup space.old crew.old.steps.made.items }
     requires helpers { AreHelpers plan.now crew.old.machine.setup space.old
         crew.old.helpers.list.items }
     requires explored { IsExplored plan.now crew.old.machine.setup space.old book.old 0 }
@@ -243,7 +328,7 @@ fn begin(alloc: Global, machine: &mut Machine, plan: &Plan) -> Result<Met, Memor
     ensures machine { OnOk result (machine.new ≡ machine.old) }
     ensures book { IfOk result (λ met. IsNew met.book (length plan.now.acts.items)) }
 {
-    let mut space = Space::new(alloc)?;
+    let mut space = Space::new(alloc, machine.cpus() as usize)?;
     note_first(&mut space, machine, plan)?;
     let book = Book::new(alloc, plan.acts().len())?;
     Ok(Met { space, book })
@@ -283,7 +368,7 @@ pub fn explore<W: Watch, R: Threads + Sync>(
     acts_change_little();
     let cpus = machine.cpus();
     let mut met = begin(alloc, &mut machine, &plan)?;
-    let mut crew = Crew::new(machine, helpers);
+    let mut crew = Crew::new(alloc, machine, helpers);
     let left = leave_all(&mut met.space, &mut crew, &plan, &mut met.book, watch)?;
     let Met { space, book } = met;
     let machine = crew.machine();

@@ -13,14 +13,14 @@ use crate::order::Order;
 use crate::plan::Plan;
 use crate::sorting::order_of;
 use crate::space::Space;
+use crate::spot::Spot;
 use lk_abs::{Act, Memory};
 use lk_machine::Machine;
 
 /// The state that is left.
 #[derive(Drop)]
 pub(crate) struct Here {
-    /// Its number.
-    pub state: usize,
+    pub spot: Spot,
     /// If states are folded, the acts of a schedule to it.
     pub way: Vec<Act>,
 }
@@ -68,9 +68,13 @@ fn run_renamed(space: &Space, machine: &mut Machine, plan: &Plan, here: &Here, o
     }
 }
 
-// The number of a state that stands for the machine, which an act led to from the state that is left.
-// It gets one if there is none. The machine is any of its setup afterwards.
-fn fold(
+/// The number of a state that stands for the machine, which an act led to from the state that is left.
+/// It gets one if there is none. The machine is any of its setup afterwards.
+///
+/// # Errors
+///
+/// There is not enough memory.
+pub(crate) fn fold(
     space: &mut Space,
     machine: &mut Machine,
     plan: &Plan,
@@ -84,48 +88,16 @@ fn fold(
     requires moves { IsMove plan.now.extras machine.old.setup doing }
     requires behind { IsBehind plan.now machine.old.setup space.old here.now doing machine.old }
     ensures noted { IfOk result (λ k. IsNoted plan.now machine.old.setup space.old space.new
-        here.now.state machine.old k) }
+        here.now.spot.state machine.old k) }
     ensures such { OnOk result (IsSuch machine.old.setup machine.new) }
 {
-    let key = space.key(machine, here.state)?;
-    if let Some(number) = space.like(here.state, &key) {
+    let key = space.key(machine, here.spot.state)?;
+    if let Some(number) = space.like(here.spot.state, &key) {
         return Ok(number);
     }
     let order = order_for(plan, machine);
     run_renamed(space, machine, plan, here, &order);
     let _ = make(machine, order.act(doing));
-    let number = space.note_fold(machine, &key, here.state)?;
+    let number = space.note_fold(machine, &key, here.spot.state)?;
     Ok(number)
-}
-
-/// The number of the state that the machine is, which an act led to from the state that is left, or
-/// of one that stands for it. It gets one if there is none. The machine is any of its setup
-/// afterwards.
-///
-/// # Errors
-///
-/// There is not enough memory.
-pub(crate) fn note(
-    space: &mut Space,
-    machine: &mut Machine,
-    plan: &Plan,
-    here: &Here,
-    doing: Act,
-) -> Result<u32, Memory>
-    requires few { length machine.old.cpus ≤ 8 }
-    requires such { IsSuch machine.old.setup machine.old }
-    requires here { IsHere plan.now machine.old.setup space.old here.now }
-    requires moves { IsMove plan.now.extras machine.old.setup doing }
-    requires behind { IsBehind plan.now machine.old.setup space.old here.now doing machine.old }
-    ensures noted { IfOk result (λ k. IsNoted plan.now machine.old.setup space.old space.new
-        here.now.state machine.old k) }
-    ensures such { OnOk result (IsSuch machine.old.setup machine.new) }
-{
-    if plan.folds {
-        let number = fold(space, machine, plan, here, doing)?;
-        Ok(number)
-    } else {
-        let number = space.note(machine, here.state)?;
-        Ok(number)
-    }
 }

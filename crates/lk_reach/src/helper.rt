@@ -13,10 +13,9 @@ ghost use Rattle.lk_reach.specs.Steps.{IsSpot};
 use crate::copies::copy_of;
 use crate::found::{Finding, Then};
 use crate::helpers::Part;
-use crate::key::Key;
 use crate::plan::Plan;
 use crate::space::Space;
-use crate::spot::{Spot, lead};
+use crate::spot::{Led, Spot, lead};
 use crate::steps::Steps;
 use lk_abs::Memory;
 use lk_machine::Machine;
@@ -72,12 +71,16 @@ impl Helper {
     }
 
     // The number of a state with this key, or of one of the same form, if it is sought and was met.
-    fn seek(&self, space: &Space, key: &Key) -> Option<u32>
+    fn seek(&self, space: &Space, led: &Led) -> Option<u32>
         ensures there { IfSome result (λ k. k < length space.now.keys) }
         ensures alike { IfSome result (λ k. (s t : MachineValue) → Keeps space.now k s
-            → KeyKeeps space.now.parts space.now.shareds key.now t → IsSameKind s t → AreAlike s t) }
+            → KeyKeeps space.now.parts space.now.shareds led.now.key t → IsSameKind s t → AreAlike s t) }
     {
-        if self.seeks { space.known(key) } else { None }
+        if self.seeks {
+            space.known(&led.key, led.hash)
+        } else {
+            None
+        }
     }
 
     // Tries an act on a state. Returns what it led to, if each part of that was met.
@@ -93,7 +96,7 @@ impl Helper {
         let by = number_of(act)?;
         let doing = plan.act(act);
         let led = lead(space, &mut self.machine, &mut self.steps, spot, doing)?;
-        let then = match self.seek(space, &led.key) {
+        let then = match self.seek(space, &led) {
             Some(known) => Then::Known(known),
             None => Then::New(led.key),
         };
@@ -112,10 +115,9 @@ impl Helper {
         requires found { AreFound plan.now self.old.machine.setup space.now self.old.findings.items }
         ensures { HasLooked plan.now space.now self.old self.new }
     {
-        let spot = Spot {
-            state,
-            key: space.key_at(state),
-        };
+        let key = space.key_at(state);
+        let hash = space.hash_of(&key);
+        let spot = Spot { state, key, hash };
         for act in 0..plan.acts().len() {
             let found = self.find(space, plan, &spot, act);
             keep(&mut self.findings, found);

@@ -2,10 +2,6 @@
 
 ghost use Rattle.std.specs.Prelude.{◌≡◌, ◌<◌, Some, slice_get};
 
-// An odd number. Its powers are the weights of the parts in the number of a key, and the upper bits
-// of a product with one of them differ for numbers that differ little.
-const WEIGHT: u64 = 0x9e37_79b9_7f4a_7c15;
-
 /// The most processors of a setup that is explored.
 pub const MAX_CPUS: usize = 8;
 
@@ -40,17 +36,5 @@ impl Key {
         ensures { slice_get self.now.cpus cpu ≡ Some result }
     {
         self.cpus[cpu as usize] as usize
-    }
-
-    /// A number for a table of keys.
-    #[inline]
-    pub(crate) fn number(&self) -> u64 {
-        let mut weight = WEIGHT;
-        let mut number = u64::from(self.shared).wrapping_mul(weight);
-        for part in &self.cpus {
-            weight = weight.wrapping_mul(WEIGHT);
-            number = number.wrapping_add(u64::from(*part).wrapping_mul(weight));
-        }
-        number
     }
 }

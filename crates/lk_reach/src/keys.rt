@@ -4,9 +4,9 @@ ghost use Rattle.std.specs.Prelude.{◌≡◌, ◌<◌, ◌≤◌, ◌++◌, ◌
 ghost use Rattle.lk_reach.specs.declared.key.Key.{Key as KeyValue};
 ghost use Rattle.lk_reach.specs.Numbers.{key_at, listed};
 
-use crate::fours::Fours;
 use crate::key::Key;
 use crate::numbers::Numbers;
+use crate::numbers::fours::Fours;
 use crate::table::MOST;
 use lk_abs::Memory;
 use std::alloc::Global;

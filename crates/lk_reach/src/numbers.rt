@@ -3,7 +3,11 @@
 ghost use Rattle.std.specs.Prelude.{◌≡◌, OnOk};
 ghost use Rattle.lk_reach.specs.Numbers.{PutsNumber, number_at};
 
-use crate::padded::{item_at, put_item};
+pub(crate) mod fours;
+mod padded;
+pub(crate) mod places;
+
+use crate::numbers::padded::{item_at, put_item};
 use lk_abs::Memory;
 use std::alloc::Global;
 

@@ -5,6 +5,7 @@ ghost use Rattle.lk_reach.specs.declared.origin.Origin.{Origin as OriginValue};
 ghost use Rattle.lk_reach.specs.Numbers.{listed, origin_at};
 
 use crate::numbers::Numbers;
+use crate::numbers::places::Places;
 use crate::origin::Origin;
 use crate::table::MOST;
 use lk_abs::Memory;
@@ -15,7 +16,7 @@ use std::marker::Model;
 #[derive(Drop)]
 pub(crate) struct Origins {
     count: usize,
-    states: Numbers,
+    states: Places,
     acts: Numbers,
     levels: Numbers,
 }
@@ -33,7 +34,7 @@ impl Origins {
     {
         Origins {
             count: 0,
-            states: Numbers::new(alloc),
+            states: Places::new(alloc),
             acts: Numbers::new(alloc),
             levels: Numbers::new(alloc),
         }
@@ -60,6 +61,15 @@ impl Origins {
         }
     }
 
+    /// How many acts lead to the state of this number.
+    #[inline]
+    pub(crate) fn level_at(&self, state: usize) -> u32
+        requires { state < length self.now }
+        ensures { (o : OriginValue) × (slice_get self.now state ≡ Some o) × (result ≡ o.level) }
+    {
+        self.levels.get(state)
+    }
+
     /// How the state of this number was met, if it was.
     pub(crate) fn get(&self, state: usize) -> Option<Origin>
         ensures some { IfSome result (λ o. slice_get self.now state ≡ Some o) }
@@ -77,6 +87,7 @@ impl Origins {
     /// # Errors
     ///
     /// There is not enough memory, or no room for one more number.
+    #[inline(never)]
     pub(crate) fn push(&mut self, origin: Origin) -> Result<(), Memory>
         ensures { OnOk result (self.new ≡ self.old ++ origin ∷ []) }
     {

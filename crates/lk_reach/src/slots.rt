@@ -79,9 +79,9 @@ impl Slots {
         self.slots.len()
     }
 
-    /// Whether seven of eight slots would be taken by so many numbers.
+    /// Whether three of four slots would be taken by so many numbers.
     pub(crate) fn are_few(&self, count: usize) -> bool {
-        count >= self.slots.len() / 8 * 7
+        count >= self.slots.len() / 4 * 3
     }
 
     /// The slot from which a thing with this hash is sought: the upper half of the hash says where
@@ -99,20 +99,26 @@ impl Slots {
         if next < self.slots.len() { next } else { 0 }
     }
 
-    /// The number in a slot, or `None` if it is empty.
+    /// What stands in a slot, or `None` if it is empty.
     #[inline]
-    pub(crate) fn number(&self, at: usize) -> Option<u32> {
-        let slot = *self.slots.get(at)?;
-        (slot & self.mask).checked_sub(1)
+    pub(crate) fn get(&self, at: usize) -> Option<u32> {
+        match self.slots.get(at) {
+            Some(0) => None,
+            Some(slot) => Some(*slot),
+            None => None,
+        }
     }
 
-    /// Whether the number in a slot may be that of a thing with this hash.
+    /// The number of what stands in a slot.
     #[inline]
-    pub(crate) fn may_be(&self, at: usize, hash: u64) -> bool {
-        match self.slots.get(at) {
-            Some(slot) => (*slot ^ lower(hash)) & !self.mask == 0,
-            None => false,
-        }
+    pub(crate) fn number(&self, slot: u32) -> u32 {
+        (slot & self.mask).wrapping_sub(1)
+    }
+
+    /// Whether what stands in a slot may be a thing with this hash.
+    #[inline]
+    pub(crate) fn may_be(&self, slot: u32, hash: u64) -> bool {
+        (slot ^ lower(hash)) & !self.mask == 0
     }
 
     /// Puts a number into the first empty slot from the home of its hash on.

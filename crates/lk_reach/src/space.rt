@@ -4,8 +4,7 @@ ghost use Rattle.std.specs.Prelude.{◌≡◌, ◌≢◌, ◌<◌, ◌≤◌, �
 ghost use Rattle.lk_rows.specs.Machine.{Machine as MachineValue, CpuState as CpuValue, cpu_at};
 ghost use Rattle.lk_machine.specs.Parts.{row_of};
 ghost use Rattle.lk_idle.specs.Alike.{AreAlike};
-ghost use Rattle.lk_reach.specs.declared.key.Key.{Key as KeyValue};
-ghost use Rattle.lk_reach.specs.Space.{AddsParts, AreClasses, AreFormed, Grows, IsFormOf, IsLoadable, IsNumbered, IsNumberOf, IsSameKind, Keeps, KeyKeeps, SameStates, SpaceValue};
+ghost use Rattle.lk_reach.specs.Space.{AddsParts, AreFormed, AreLikeParts, Grows, HaveForm, IsLikePart, IsLoadable, IsNumbered, IsNumberOf, IsSameKind, Keeps, KeyKeeps, SameStates, SpaceValue};
 
 mod folds;
 mod growing;
@@ -31,10 +30,16 @@ const SLOT_BYTES: usize = 6;
 
 const PART_BYTES: usize = 1_200;
 
+// An odd number. Its powers are the weights of the parts in the hash of a key, and the upper bits of a
+// product with one of them differ for numbers that differ little.
+const WEIGHT: u64 = 0x9e37_79b9_7f4a_7c15;
+
 /// The states that were met, by their numbers.
 #[derive(Drop)]
 pub(crate) struct Space {
     alloc: Global,
+    /// How many processors a state has, for hashes of keys.
+    cpus: usize,
     parts: CpuTable,
     /// Parts with the dead registers of their newest frames at rest.
     forms: CpuTable,
@@ -66,13 +71,14 @@ impl Model for Space {
 }
 
 impl Space {
-    /// A space without states.
-    pub(crate) fn new(alloc: Global) -> Result<Space, Memory>
+    /// A space without states, each of which will have so many processors.
+    pub(crate) fn new(alloc: Global, cpus: usize) -> Result<Space, Memory>
         ensures keys { IfOk result (λ space. length space.keys ≡ 0) }
         ensures folds { IfOk result (λ space. length space.folds ≡ 0) }
     {
         Ok(Space {
             alloc,
+            cpus,
             parts: CpuTable::new(alloc)?,
             forms: CpuTable::new(alloc)?,
             classes: Vec::new(alloc),
@@ -186,27 +192,25 @@ impl Space {
         }
     }
 
-    // The form of a key: the classes of its parts, if each has one.
+    // A number for a part: that of its class, or its own if it has none.
     #[inline]
-    fn form_of(&self, key: &Key) -> Option<Key>
-        ensures { IfSome result (λ form. IsFormOf self.now.classes key.now form) }
-    {
-        let mut cpus = key.cpus;
-        for cpu in 0..MAX_CPUS {
-            cpus[cpu] = self.class(cpus[cpu])?;
+    fn class_number(&self, part: u32) -> u64 {
+        match self.classes.get(part as usize) {
+            Some(class) => u64::from(*class),
+            None => u64::from(part),
         }
-        Some(Key {
-            shared: key.shared,
-            cpus,
-        })
     }
 
-    // By which hash a state with this key is sought.
-    fn hash_of(&self, key: &Key) -> u64 {
-        match self.form_of(key) {
-            Some(form) => form.number(),
-            None => key.number(),
+    /// By which hash a state with this key is sought. Keys of the same form have the same one.
+    #[inline]
+    pub(crate) fn hash_of(&self, key: &Key) -> u64 {
+        let mut weight = WEIGHT;
+        let mut hash = u64::from(key.shared).wrapping_mul(weight);
+        for cpu in 0..self.cpus.min(MAX_CPUS) {
+            weight = weight.wrapping_mul(WEIGHT);
+            hash = hash.wrapping_add(self.class_number(key.cpus[cpu]).wrapping_mul(weight));
         }
+        hash
     }
 
     // Whether a part has this class.
@@ -220,55 +224,67 @@ impl Space {
         }
     }
 
-    // Whether these parts have these classes. Most parts of two keys are apart early, so this is
-    // less than to look up all classes.
+    // Whether two parts are the same one, or have the same class.
     #[inline]
-    fn are_classes(&self, parts: &[u32], classes: &[u32]) -> bool
-        ensures { result ≡ true → AreClasses self.now.classes parts.now classes.now }
+    fn is_like(&self, part: u32, other: u32) -> bool
+        ensures { result ≡ true → IsLikePart self.now.classes part other }
     {
-        if parts.len() != classes.len() {
+        if part == other {
+            return true;
+        }
+        match self.class(part) {
+            Some(class) => self.is_class(other, class),
+            None => false,
+        }
+    }
+
+    // Whether these parts are like those, one by one.
+    #[inline]
+    fn are_like(&self, parts: &[u32], others: &[u32]) -> bool
+        ensures { result ≡ true → AreLikeParts self.now.classes parts.now others.now }
+    {
+        if parts.len() != others.len() {
             return false;
         }
         for at in 0..parts.len() {
-            if !self.is_class(parts[at], classes[at]) {
+            if !self.is_like(parts[at], others[at]) {
                 return false;
             }
         }
         true
     }
 
-    // Whether this is the form of a key.
+    // Whether two keys have the same form.
     #[inline]
-    fn is_form_of(&self, key: &Key, form: &Key) -> bool
-        ensures { result ≡ true → IsFormOf self.now.classes key.now form.now }
+    fn have_form(&self, one: &Key, other: &Key) -> bool
+        ensures { result ≡ true → HaveForm self.now.classes one.now other.now }
     {
-        if key.shared != form.shared {
+        if one.shared != other.shared {
             return false;
         }
-        self.are_classes(&key.cpus, &form.cpus)
+        self.are_like(&one.cpus, &other.cpus)
     }
 
-    // Whether the state with this number has this form.
+    // Whether the key of the state with this number has the form of this one.
     #[inline]
-    fn has_form(&self, number: usize, form: &Key) -> bool
-        ensures { result ≡ true → (item : KeyValue) × (slice_get self.now.keys number ≡ Some item)
-            × IsFormOf self.now.classes item form.now }
+    fn has_form(&self, number: usize, key: &Key) -> bool
+        ensures { result ≡ true → IsNumberOf self.now number key.now }
     {
         match self.keys.get(number) {
-            Some(item) => self.is_form_of(&item, form),
+            Some(item) => self.have_form(&item, key),
             None => false,
         }
     }
 
-    // The number of a state with this form, by its hash, if it is found.
-    fn find(&self, form: &Key, hash: u64) -> Option<u32>
-        ensures { IfSome result (λ k. (item : KeyValue) × (slice_get self.now.keys k ≡ Some item)
-            × IsFormOf self.now.classes item form.now) }
+    // The number of a state whose key has the form of this one, by its hash, if it is found.
+    fn find(&self, key: &Key, hash: u64) -> Option<u32>
+        ensures { IfSome result (λ k. IsNumberOf self.now k key.now) }
     {
         let mut at = self.slots.home(hash);
         for _ in 0..self.slots.len() {
-            let number = self.slots.number(at)?;
-            if self.slots.may_be(at, hash) && self.has_form(number as usize, form) {
+            let slot = self.slots.get(at)?;
+            let number = self.slots.number(slot);
+            if self.slots.may_be(slot, hash) && self.has_form(number as usize, key) {
                 return Some(number);
             }
             at = self.slots.behind(at);
@@ -345,35 +361,14 @@ impl Space {
         Ok(number)
     }
 
-    // The number of a state whose key has the same form, if one is found.
-    fn sought(&self, key: &Key) -> Option<u32>
-        ensures { IfSome result (λ k. IsNumberOf self.now k key.now) }
-    {
-        let form = self.form_of(key)?;
-        let number = self.find(&form, form.number())?;
-        Some(number)
-    }
-
-    // The number of the state with this key, which has this form, or of one of the same form. It gets
-    // one if there is none.
-    fn number_formed(&mut self, key: &Key, form: &Key) -> Result<u32, Memory>
-        requires { IsFormOf self.old.classes key.now form.now }
+    // The number of the state with this key or of one of its form, by its hash. It gets one if there is
+    // none.
+    fn number(&mut self, key: &Key, hash: u64) -> Result<u32, Memory>
         ensures { IfOk result (λ k. IsNumbered self.old self.new key.now k) }
     {
-        let hash = form.number();
-        match self.find(form, hash) {
+        match self.find(key, hash) {
             Some(number) => Ok(number),
             None => self.add(key, hash),
-        }
-    }
-
-    // The number of the state with this key or of one of its form. It gets one if there is none.
-    fn number(&mut self, key: &Key) -> Result<u32, Memory>
-        ensures { IfOk result (λ k. IsNumbered self.old self.new key.now k) }
-    {
-        match self.form_of(key) {
-            Some(form) => self.number_formed(key, &form),
-            None => self.add(key, key.number()),
         }
     }
 
@@ -412,7 +407,7 @@ impl Space {
         ensures machine { OnOk result (machine.new ≡ machine.old) }
     {
         let key = self.key(machine, near)?;
-        let number = self.number(&key)?;
+        let number = self.number(&key, self.hash_of(&key))?;
         self.formed();
         Ok(number)
     }
@@ -425,8 +420,7 @@ impl Space {
     {
         self.formed();
         let number = u32::try_from(state).ok()?;
-        let form = self.form_of(key)?;
-        if self.has_form(state, &form) {
+        if self.has_form(state, key) {
             Some(number)
         } else {
             None

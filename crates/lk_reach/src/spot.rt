@@ -17,17 +17,19 @@ use crate::touch::touched_by;
 use lk_abs::{Act, Event};
 use lk_machine::Machine;
 
-/// The state that is left, by its number, and its key.
+/// The state that is left, by its number, its key, and the hash by which that is sought.
 #[derive(Clone, Copy)]
 pub(crate) struct Spot {
     pub state: usize,
     pub key: Key,
+    pub hash: u64,
 }
 
-/// The key of what an act led to, and what it told.
+/// The key of what an act led to, the hash by which that is sought, and what the act told.
 #[derive(Clone, Copy)]
 pub(crate) struct Led {
     pub key: Key,
+    pub hash: u64,
     pub event: Option<Event>,
 }
 
@@ -47,12 +49,19 @@ fn made_on(spot: &Spot, led: &Led, cpu: u32, other: u32) -> Made
         then_part: led.key.cpus[cpu as usize],
         then_beside: led.key.cpus[other as usize],
         event: led.event,
+        turn: led.hash.wrapping_sub(spot.hash),
     }
 }
 
-// Remembers a step on a state and where it led, if it is known whom it touched. There are so many
-// states.
-fn remember(steps: &mut Steps, spot: &Spot, led: &Led, touched: Option<(u32, u32)>, states: usize)
+/// Remembers a step on a state and where it led, if it is known whom it touched. There are so many
+/// states.
+pub(crate) fn remember(
+    steps: &mut Steps,
+    spot: &Spot,
+    led: &Led,
+    touched: Option<(u32, u32)>,
+    states: usize,
+)
     requires { IfSome touched (λ f. (f.0 < 8) × (f.1 < 8)) }
     ensures { Remembers touched spot.now led.now steps.old.made.items steps.new.made.items }
 {
@@ -83,13 +92,15 @@ fn make_on(
     let touched = touched_by(machine, doing);
     let event = make(machine, doing);
     let key = space.key_seen(machine, spot.state)?;
-    let led = Led { key, event };
+    let hash = space.hash_of(&key);
+    let led = Led { key, hash, event };
     remember(steps, spot, &led, touched, space.len());
     Some(led)
 }
 
-// Where a step led that was made on the same parts as this state has.
-fn remembered(steps: &Steps, spot: &Spot, doing: Act) -> Option<Led>
+/// Where a step led that was made on the same parts as this state has.
+#[inline]
+pub(crate) fn remembered(steps: &Steps, spot: &Spot, doing: Act) -> Option<Led>
     ensures { IfSome result (λ led. IsRemembered steps.now.made.items spot.now.key doing led) }
 {
     let Act::Step(cpu) = doing else {
@@ -98,6 +109,7 @@ fn remembered(steps: &Steps, spot: &Spot, doing: Act) -> Option<Led>
     let made = steps.find(&spot.key, cpu)?;
     Some(Led {
         key: made.then(&spot.key),
+        hash: spot.hash.wrapping_add(made.turn),
         event: made.event,
     })
 }

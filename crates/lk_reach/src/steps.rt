@@ -9,13 +9,14 @@ use crate::key::Key;
 use lk_abs::Event;
 use std::alloc::Global;
 
-// How many steps are remembered at most, and how many at first. One takes the place of another.
+// How many steps are remembered at most, and how many at first. Each has two places, and takes that of the
+// older one there.
 const MOST_STEPS: usize = 32_768;
 
 const FIRST_STEPS: usize = 8_192;
 
 // So many states come on a step that may be remembered.
-const STATES: usize = 80;
+const STATES: usize = 40;
 
 // An odd number. The upper bits of a product with it differ for numbers that differ little.
 const WEIGHT: u64 = 0x9e37_79b9_7f4a_7c15;
@@ -41,6 +42,8 @@ pub(crate) struct Made {
     pub then_beside: u32,
     /// What it told.
     pub event: Option<Event>,
+    /// By how much the hash of a state's key is more behind it.
+    pub turn: u64,
 }
 
 /// Steps that were made.
@@ -99,6 +102,16 @@ fn put(made: &mut Vec<Option<Made>>, at: usize, step: Made)
     }
 }
 
+// The step at a place stands at the next one, too.
+fn pass_on(made: &mut Vec<Option<Made>>, at: usize)
+    ensures { MayForget made.old.items made.new.items }
+{
+    if let Some(step) = step_at(made, at) {
+        let step = *step;
+        put(made, at + 1, step);
+    }
+}
+
 // The step at a place.
 #[inline]
 fn step_at(made: &Vec<Option<Made>>, at: usize) -> Option<&Made>
@@ -140,11 +153,11 @@ impl Steps {
         }
     }
 
-    // Where a step stands that begins with this hash.
+    // The first of the two places where a step may stand that begins with this hash.
     #[inline]
     fn place(&self, hash: u64) -> usize {
-        let count = self.made.len() as u64;
-        ((hash >> 32).wrapping_mul(count) >> 32) as usize
+        let pairs = self.made.len() as u64 / 2;
+        ((hash >> 32).wrapping_mul(pairs) >> 32) as usize * 2
     }
 
     // Whom a step touches at a part, beside the processor that makes it, as it is remembered.
@@ -162,6 +175,21 @@ impl Steps {
         }
     }
 
+    // The step at a place, if it is that of a processor on a state with this key.
+    #[inline]
+    fn found(&self, at: usize, key: &Key, cpu: u32, other: u32) -> Option<&Made>
+        requires low { cpu < 8 }
+        requires near { other < 8 }
+        ensures { IfSome result (λ e. IsFoundStep self.now.made.items key.now cpu e.now) }
+    {
+        let step = step_at(&self.made, at)?;
+        if begins(step, key, cpu, other) {
+            Some(step)
+        } else {
+            None
+        }
+    }
+
     /// The step of a processor on a state with this key, if it was made.
     #[inline]
     pub(crate) fn find(&self, key: &Key, cpu: u32) -> Option<&Made>
@@ -170,12 +198,10 @@ impl Steps {
         let part = *key.cpus.get(cpu as usize)?;
         let other = self.other(part, cpu);
         let beside = *key.cpus.get(other as usize)?;
-        let hash = hash_of(key.shared, cpu, part, beside);
-        let step = step_at(&self.made, self.place(hash))?;
-        if begins(step, key, cpu, other) {
-            Some(step)
-        } else {
-            None
+        let at = self.place(hash_of(key.shared, cpu, part, beside));
+        match self.found(at, key, cpu, other) {
+            Some(step) => Some(step),
+            None => self.found(at.saturating_add(1), key, cpu, other),
         }
     }
 
@@ -216,6 +242,7 @@ impl Steps {
         self.tell(step.part as usize, other);
         let hash = hash_of(step.shared, step.cpu, step.part, step.beside);
         let at = self.place(hash);
+        pass_on(&mut self.made, at);
         put(&mut self.made, at, step);
     }
 }

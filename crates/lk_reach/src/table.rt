@@ -54,8 +54,9 @@ impl CpuTable {
     {
         let mut at = self.slots.home(hash);
         for _ in 0..self.slots.len() {
-            let number = self.slots.number(at)?;
-            if self.slots.may_be(at, hash) && self.is_at(number, part) {
+            let slot = self.slots.get(at)?;
+            let number = self.slots.number(slot);
+            if self.slots.may_be(slot, hash) && self.is_at(number, part) {
                 return Some(number);
             }
             at = self.slots.behind(at);
@@ -165,8 +166,9 @@ impl SharedTable {
     {
         let mut at = self.slots.home(hash);
         for _ in 0..self.slots.len() {
-            let number = self.slots.number(at)?;
-            if self.slots.may_be(at, hash) && self.is_at(number, machine) {
+            let slot = self.slots.get(at)?;
+            let number = self.slots.number(slot);
+            if self.slots.may_be(slot, hash) && self.is_at(number, machine) {
                 return Some(number);
             }
             at = self.slots.behind(at);

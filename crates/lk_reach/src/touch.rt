@@ -15,7 +15,10 @@ fn touched(machine: &Machine, cpu: u32) -> Option<u32>
     ensures { IfSome result (λ q. Touches machine.now cpu q) }
 {
     let depth = machine.depth(cpu) as usize;
-    if depth == 0 || depth > MAX_FRAMES {
+    if depth == 0 {
+        return Some(cpu);
+    }
+    if depth > MAX_FRAMES {
         return None;
     }
     let frame = machine.frame(cpu);

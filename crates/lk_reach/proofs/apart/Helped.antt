@@ -24,6 +24,7 @@ use Rattle.lk_reach.specs.Helped.{AreFound, AreFresh, AreHelpers, HasLooked, IsF
 use Rattle.lk_reach.specs.Helped.{IsSettled, LeadsThere, MayKeep}
 use Rattle.lk_reach.specs.Reach.{IsBegun, IsMove, IsReached, after}
 use Rattle.lk_reach.specs.Space.{Grows, IsSameKind, Keeps, KeyKeeps, SpaceValue}
+use Rattle.lk_reach.specs.Steps.{AreMade}
 use Rattle.lk_reach.proofs.Closed.{reached_such, reached_then, rest_cpus_of, same_state}
 use Rattle.lk_reach.proofs.Folded.{laws, stands_alike}
 use Rattle.lk_reach.proofs.apart.Grown.{like_grown}
@@ -36,14 +37,18 @@ use Rattle.lk_reach.proofs.apart.Remembered.{made_grown}
 none_there : {A : Type 0} → (i : ℕ) (x : A) → slice_get [] i ≡ Some x → ⊥
 none_there i x e = cc
 
+-- no steps
+pub none_made : (setup : Setup) (v : SpaceValue) (made : List (Option Made)) → made ≡ [] → AreMade setup v made
+none_made setup v made none i e is =
+    absurd (none_there i (Some e) (subst (λ (es : List (Option Made)). slice_get es i ≡ Some (Some e)) none is))
+
 pub fresh_helpers : (plan : Plan) (setup : Setup) (v : SpaceValue) (hs : List Helper) → AreFresh setup hs
     → AreHelpers plan setup v hs
 fresh_helpers plan setup v hs x i h at =
     let y = x i h at in
     record {
       such = y.such;
-      made = λ j e is. absurd (none_there j (Some e)
-          (subst (λ (es : List (Option Made)). slice_get es j ≡ Some (Some e)) y.no_steps is));
+      made = none_made setup v h.steps.made.items y.no_steps;
       found = λ j f is. absurd (none_there j f (subst (λ (fs : List Finding). slice_get fs j ≡ Some f) y.none is));
     }
 
@@ -124,7 +129,7 @@ module _ (plan : Plan) (setup : Setup) where
 
   -- where an act leads that was found to lead there
   module _ (begun : IsBegun plan setup) (v w : SpaceValue) (here : Here) (k : ℕ) (is : IsHere plan setup v here)
-      (plain : plan.folds ≡ false) (s : Machine) (a : Act) (has : Keeps v here.state s) (reached : IsReached plan setup s)
+      (plain : plan.folds ≡ false) (s : Machine) (a : Act) (has : Keeps v here.spot.state s) (reached : IsReached plan setup s)
       (move : IsMove plan.extras setup a) where
     there : IsReached plan setup (after s a)
     there = reached_then laws plan setup begun s a reached move
@@ -132,7 +137,7 @@ module _ (plan : Plan) (setup : Setup) where
     such : IsSuch setup (after s a)
     such = reached_such laws plan setup begun (after s a) there
 
-    known_noted : (j : ℕ) → IsKnown plan setup v here.state s (after s a) j → IsNoted plan setup v v here.state (after s a) j
+    known_noted : (j : ℕ) → IsKnown plan setup v here.spot.state s (after s a) j → IsNoted plan setup v v here.spot.state (after s a) j
     known_noted j x = record {
       there = slice_get_within v.keys j x.like.keeps.key x.like.keeps.is;
       kept = λ t keeps at.
@@ -140,37 +145,37 @@ module _ (plan : Plan) (setup : Setup) where
           (same_state laws plan setup begun v j x.like.state t x.like.keeps keeps x.like.reached at) x.like.stands;
       stays = λ e t keeps at.
           subst (λ (z : Machine). AreAlike z (after s a))
-          (same_state laws plan setup begun v here.state s t has keeps reached at) (x.stays e);
+          (same_state laws plan setup begun v here.spot.state s t has keeps reached at) (x.stays e);
       grows = grows_self v;
       one = λ i high low. absurd (omega (arith, high, low));
       folds = λ yes. is.folds yes;
     }
 
     key_noted : (key : Key) → KeyKeeps v.parts v.shareds key (after s a) → IsKeyNoted v w key k
-        → IsNoted plan setup v w here.state (after s a) k
+        → IsNoted plan setup v w here.spot.state (after s a) k
     key_noted key x e =
         let keeps = key_grown v w e.grows key (after s a) x in
-        plain_noted plan setup begun v w here.state k (after s a) such plain e.there
+        plain_noted plan setup begun v w here.spot.state k (after s a) such plain e.there
         (λ t at kind. e.alike t (after s a) at keeps kind) e.grows
         (λ j high low. let one = e.one j high low in (one.0, record { key = key; is = one.1; keeps = keeps }))
 
-    by_then : (t : Then) → LeadsThere plan setup v here.state s (after s a) t → IsSettled v w t k
-        → IsNoted plan setup v w here.state (after s a) k
+    by_then : (t : Then) → LeadsThere plan setup v here.spot.state s (after s a) t → IsSettled v w t k
+        → IsNoted plan setup v w here.spot.state (after s a) k
     by_then (then.Known j) x e =
-        subst (λ (u : SpaceValue). IsNoted plan setup v u here.state (after s a) k) (sym e.1)
-        (subst (λ (i : ℕ). IsNoted plan setup v v here.state (after s a) i) (sym e.0) (known_noted j x))
+        subst (λ (u : SpaceValue). IsNoted plan setup v u here.spot.state (after s a) k) (sym e.1)
+        (subst (λ (i : ℕ). IsNoted plan setup v v here.spot.state (after s a) i) (sym e.0) (known_noted j x))
     by_then (then.New key) x e = key_noted key x e
 
-    same_then : (f : Finding) → f.state ≡ here.state → slice_get plan.acts.items f.act ≡ Some a → (x : IsFound plan setup v f)
+    same_then : (f : Finding) → f.state ≡ here.spot.state → slice_get plan.acts.items f.act ≡ Some a → (x : IsFound plan setup v f)
         → (x.state ≡ s) × (x.act ≡ a)
     same_then f left doing x = (
-      same_state laws plan setup begun v here.state x.state s
+      same_state laws plan setup begun v here.spot.state x.state s
           (subst (λ (h : ℕ). Keeps v h x.state) left x.keeps) has x.reached reached,
       one_value (slice_get plan.acts.items f.act) x.act a x.doing doing,
     )
 
-    pub found_noted : (f : Finding) → f.state ≡ here.state → slice_get plan.acts.items f.act ≡ Some a
-        → IsFound plan setup v f → IsSettled v w f.then k → IsNoted plan setup v w here.state (after s a) k
+    pub found_noted : (f : Finding) → f.state ≡ here.spot.state → slice_get plan.acts.items f.act ≡ Some a
+        → IsFound plan setup v f → IsSettled v w f.then k → IsNoted plan setup v w here.spot.state (after s a) k
     found_noted f left doing x e =
         let same = same_then f left doing x in
         by_then f.then
@@ -178,7 +183,7 @@ module _ (plan : Plan) (setup : Setup) where
         (subst (λ (z : Machine). LeadsThere plan setup v f.state z (after z a) f.then) same.0
         (subst (λ (b : Act). LeadsThere plan setup v f.state x.state (after x.state b) f.then) same.1 x.then))) e
 
-    pub found_told : (f : Finding) → f.state ≡ here.state → slice_get plan.acts.items f.act ≡ Some a
+    pub found_told : (f : Finding) → f.state ≡ here.spot.state → slice_get plan.acts.items f.act ≡ Some a
         → IsFound plan setup v f → f.event ≡ (next s a).1
     found_told f left doing x =
         let same = same_then f left doing x in

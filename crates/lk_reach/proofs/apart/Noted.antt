@@ -113,7 +113,8 @@ module _ (plan : Plan) (setup : Setup) (begun : IsBegun plan setup) where
   here_kept v w here more h = record {
     begun = h.begun;
     state = h.state;
-    keeps = keeps_grown v w more.grows here.state h.state h.keeps;
+    keeps = keeps_grown v w more.grows here.spot.state h.state h.keeps;
+    key = front_at v.keys w.keys more.grows.keys here.spot.state here.spot.key h.key;
     reached = h.reached;
     folds = λ yes. folds_kept v w more (h.folds yes);
     moves = h.moves;

@@ -4,8 +4,7 @@
 ghost use Rattle.std.specs.Prelude.{◌≡◌, ◌≢◌, ◌<◌, ◌≤◌, IfOk, OnOk, IfSome, ℕ, Some, length, slice_get, true};
 ghost use Rattle.lk_rows.specs.Machine.{Machine as MachineValue};
 ghost use Rattle.lk_idle.specs.Alike.{AreAlike};
-ghost use Rattle.lk_reach.specs.declared.key.Key.{Key as KeyValue};
-ghost use Rattle.lk_reach.specs.Space.{AddsFold, Folds, Grows, IsFolded, IsFoldNumbered, IsFoldOf, IsFormOf, IsSameKind};
+ghost use Rattle.lk_reach.specs.Space.{AddsFold, Folds, Grows, IsFolded, IsFoldNumbered, IsFoldOf, IsSameKind};
 
 use crate::key::Key;
 use crate::space::Space;
@@ -13,46 +12,35 @@ use lk_abs::Memory;
 use lk_machine::Machine;
 
 impl Space {
-    // Whether the fold of the state with this number has this form.
-    fn has_fold(&self, number: usize, form: &Key) -> bool
-        ensures { result ≡ true → (item : KeyValue) × (slice_get self.now.folds number ≡ Some item)
-            × IsFormOf self.now.classes item form.now }
+    // Whether the fold of the state with this number has the form of this one.
+    fn has_fold(&self, number: usize, fold: &Key) -> bool
+        ensures { result ≡ true → IsFoldOf self.now number fold.now }
     {
         match self.folds.get(number) {
-            Some(item) => self.is_form_of(&item, form),
+            Some(item) => self.have_form(&item, fold),
             None => false,
         }
     }
 
-    // The number of a state, other than the one that is left, whose fold has this form.
-    fn find_fold(&self, form: &Key, left: usize) -> Option<u32>
-        ensures fold { IfSome result (λ k. (item : KeyValue) × (slice_get self.now.folds k ≡ Some item)
-            × IsFormOf self.now.classes item form.now) }
+    // The number of a state, other than the one that is left, whose fold has the form of this one.
+    fn find_fold(&self, fold: &Key, left: usize) -> Option<u32>
+        ensures fold { IfSome result (λ k. IsFoldOf self.now k fold.now) }
         ensures other { IfSome result (λ k. k ≢ left) }
     {
-        let hash = form.number();
+        let hash = self.hash_of(fold);
         let mut at = self.slots.home(hash);
         for _ in 0..self.slots.len() {
-            let number = self.slots.number(at)?;
+            let slot = self.slots.get(at)?;
+            let number = self.slots.number(slot);
             if number as usize != left
-                && self.slots.may_be(at, hash)
-                && self.has_fold(number as usize, form)
+                && self.slots.may_be(slot, hash)
+                && self.has_fold(number as usize, fold)
             {
                 return Some(number);
             }
             at = self.slots.behind(at);
         }
         None
-    }
-
-    // The number of a state, other than the one that is left, whose fold has the form of this key.
-    fn sought_fold(&self, fold: &Key, left: usize) -> Option<u32>
-        ensures fold { IfSome result (λ k. IsFoldOf self.now k fold.now) }
-        ensures other { IfSome result (λ k. k ≢ left) }
-    {
-        let form = self.form_of(fold)?;
-        let number = self.find_fold(&form, left)?;
-        Some(number)
     }
 
     // Gives the next state its fold.
@@ -80,7 +68,7 @@ impl Space {
         requires folds { length self.old.folds ≡ length self.old.keys }
         ensures { IfOk result (λ k. IsFoldNumbered self.old self.new key.now fold.now left k) }
     {
-        match self.sought_fold(fold, left) {
+        match self.find_fold(fold, left) {
             Some(number) => Ok(number),
             None => {
                 let number = self.add_fold(key, fold)?;

@@ -4,8 +4,7 @@ ghost use Rattle.std.specs.Prelude.{◌≡◌, ◌<◌, ◌≤◌, IfOk, IfSome,
 ghost use Rattle.lk_rows.specs.Machine.{Machine as MachineValue};
 ghost use Rattle.lk_idle.specs.Alike.{AreAlike};
 ghost use Rattle.lk_reach.specs.Helped.{IsKeyNoted};
-ghost use Rattle.lk_reach.specs.declared.key.Key.{Key as KeyValue};
-ghost use Rattle.lk_reach.specs.Space.{IsFormOf, IsNumbered, IsSameKind, Keeps, KeyKeeps};
+ghost use Rattle.lk_reach.specs.Space.{IsNumbered, IsNumberOf, IsSameKind, Keeps, KeyKeeps};
 
 use crate::key::Key;
 use crate::space::Space;
@@ -32,15 +31,15 @@ impl Space {
         Some(Key { shared, cpus })
     }
 
-    /// The number of the state with this key, or of one that differs from it in dead registers alone,
-    /// if it was met.
-    pub(crate) fn known(&self, key: &Key) -> Option<u32>
+    /// The number of the state with this key, or of one that differs from it in dead registers alone, by
+    /// its hash, if it was met.
+    pub(crate) fn known(&self, key: &Key, hash: u64) -> Option<u32>
         ensures there { IfSome result (λ k. k < length self.now.keys) }
         ensures alike { IfSome result (λ k. (s t : MachineValue) → Keeps self.now k s
             → KeyKeeps self.now.parts self.now.shareds key.now t → IsSameKind s t → AreAlike s t) }
     {
         self.formed();
-        let number = self.sought(key)?;
+        let number = self.find(key, hash)?;
         Some(number)
     }
 
@@ -58,15 +57,15 @@ impl Space {
         self.make_room_ahead(rt, threads, more);
     }
 
-    // The number of a state with this form that was met since helpers looked, if it is found.
-    fn find_recent(&self, form: &Key, hash: u64) -> Option<u32>
-        ensures { IfSome result (λ k. (item : KeyValue) × (slice_get self.now.keys k ≡ Some item)
-            × IsFormOf self.now.classes item form.now) }
+    // The number of a state whose key has the form of this one, and that was met since helpers looked, if
+    // it is found.
+    fn find_recent(&self, key: &Key, hash: u64) -> Option<u32>
+        ensures { IfSome result (λ k. IsNumberOf self.now k key.now) }
     {
         let mut at = self.recent.home(hash);
         for _ in 0..self.recent.len() {
             let number = self.recent.number(at)?;
-            if self.has_form(number as usize, form) {
+            if self.has_form(number as usize, key) {
                 return Some(number);
             }
             at = self.recent.behind(at);
@@ -74,48 +73,45 @@ impl Space {
         None
     }
 
-    // The number of a state with this form that helpers did not find, if it is found.
-    fn find_unseen(&self, form: &Key, hash: u64) -> Option<u32>
-        ensures { IfSome result (λ k. (item : KeyValue) × (slice_get self.now.keys k ≡ Some item)
-            × IsFormOf self.now.classes item form.now) }
+    // The number of a state whose key has the form of this one, and that helpers did not find, if it is
+    // found.
+    fn find_unseen(&self, key: &Key, hash: u64) -> Option<u32>
+        ensures { IfSome result (λ k. IsNumberOf self.now k key.now) }
     {
         if self.recent.has_all() {
-            self.find_recent(form, hash)
+            self.find_recent(key, hash)
         } else {
-            self.find(form, hash)
+            self.find(key, hash)
         }
     }
 
-    // The number of the state with this key, which has this form, or of one of the same form, neither of
-    // which helpers found. It gets one if there is none.
-    fn number_unseen(&mut self, key: &Key, form: &Key) -> Result<u32, Memory>
-        requires { IsFormOf self.old.classes key.now form.now }
+    // The number of the state with this key, or of one of its form, neither of which helpers found. It
+    // gets one if there is none.
+    fn number_unseen(&mut self, key: &Key, hash: u64) -> Result<u32, Memory>
         ensures { IfOk result (λ k. IsNumbered self.old self.new key.now k) }
     {
-        let hash = form.number();
-        match self.find_unseen(form, hash) {
+        match self.find_unseen(key, hash) {
             Some(number) => Ok(number),
             None => self.add(key, hash),
         }
     }
 
-    // The number of the state with this key, which helpers did not find, or of one of the same form. It
-    // gets one if there is none.
-    fn number_new(&mut self, key: &Key) -> Result<u32, Memory>
-        ensures { IfOk result (λ k. IsNumbered self.old self.new key.now k) }
-    {
-        match self.form_of(key) {
-            Some(form) => self.number_unseen(key, &form),
-            None => self.add(key, key.number()),
-        }
-    }
-
     /// The number of the state with this key, which helpers did not find, or of one that differs from it
     /// in dead registers alone. It gets one if there is none.
-    pub(crate) fn note_key(&mut self, key: &Key) -> Result<u32, Memory>
+    pub(crate) fn note_unseen(&mut self, key: &Key) -> Result<u32, Memory>
         ensures { IfOk result (λ k. IsKeyNoted self.old self.new key.now k) }
     {
-        let number = self.number_new(key)?;
+        let number = self.number_unseen(key, self.hash_of(key))?;
+        self.formed();
+        Ok(number)
+    }
+
+    /// The number of the state with this key, or of one that differs from it in dead registers alone, by
+    /// its hash. It gets one if there is none.
+    pub(crate) fn note_key(&mut self, key: &Key, hash: u64) -> Result<u32, Memory>
+        ensures { IfOk result (λ k. IsKeyNoted self.old self.new key.now k) }
+    {
+        let number = self.number(key, hash)?;
         self.formed();
         Ok(number)
     }

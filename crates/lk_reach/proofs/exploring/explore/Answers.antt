@@ -52,6 +52,11 @@ leave_all-requires-clause-helpers g c κs outlives =
     (helped.fresh_helpers p crew.machine.setup c.in_ok-met.met.space c.args.helpers.list.items
     (subst (λ (q : Machine). AreFresh q.setup c.args.helpers.list.items) (sym same) c.requires.helpers))
 
+pub leave_all-requires-clause-made : goal.leave_all-requires-clause-made
+leave_all-requires-clause-made g c κs outlives =
+    helped.none_made c.new-crew.result.machine.setup c.in_ok-met.met.space c.new-crew.result.steps.made.items
+    c.new-crew.ensures.steps
+
 pub leave_all-requires-clause-explored : goal.leave_all-requires-clause-explored
 leave_all-requires-clause-explored g c κs outlives =
     let p = c.args.plan in

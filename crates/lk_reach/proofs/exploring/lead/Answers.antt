@@ -1,11 +1,14 @@
-use Rattle.std.proofs.Common.{◌≡◌, ap, List, ℕ, Some, sym, subst}
+use Rattle.std.proofs.Common.{◌≡◌, ◌∙◌, ap, List, ℕ, Some, sym, subst}
 use Rattle.std.specs.Prelude.{slice_get}
 use Rattle.lk_rows.specs.declared.setup.Setup.{Setup}
 use Rattle.lk_rows.specs.Machine.{Machine}
 use Rattle.lk_reach.specs.declared.helper.Helper.{Helper}
 use Rattle.lk_reach.specs.Helped.{AreHelpers}
 use Rattle.lk_reach.specs.Reach.{IsReached}
+use Rattle.lk_reach.specs.declared.steps.Steps.{Steps}
+use Rattle.lk_reach.specs.Steps.{AreMade}
 use Rattle.lk_reach.proofs.apart.Helped as helped
+use Rattle.lk_reach.proofs.apart.Remembered.{made_grown}
 use Rattle.lk_reach.proofs.exploring.lead.Goals as goal
 
 pub returns-in_ok-then-in-Some-clause-noted : goal.returns-in_ok-then-in-Some-clause-noted
@@ -43,6 +46,16 @@ returns-in_ok-then-in-Some-clause-helpers g c =
     (helped.settled_grows p z v w c.in-Some.finding.then c.in_ok-then-in-Some.then c.in_ok-then-in-Some.ensures)
     c.args.crew.now.helpers.list.items c.requires.helpers)
 
+pub returns-in_ok-then-in-Some-clause-made : goal.returns-in_ok-then-in-Some-clause-made
+returns-in_ok-then-in-Some-clause-made g c =
+    let p = c.args.plan.now in
+    let z = c.args.crew.now.machine.setup in
+    let v = c.args.space.now in
+    let w = c.settle.new.space in
+    subst (λ (x : Steps). AreMade z w x.made.items) (sym c.in-Some.ensures.steps)
+    (made_grown z v w (helped.settled_grows p z v w c.in-Some.finding.then c.in_ok-then-in-Some.then c.in_ok-then-in-Some.ensures)
+    c.args.crew.now.steps.made.items c.requires.made)
+
 pub returns-in_ok-found-in-None-clause-helpers : goal.returns-in_ok-found-in-None-clause-helpers
 returns-in_ok-found-in-None-clause-helpers g c =
     let p = c.args.plan.now in
@@ -51,7 +64,8 @@ returns-in_ok-found-in-None-clause-helpers g c =
     let w = c.visit.new.space in
     let here = c.requires.here in
     let same = ap (λ (m : Machine). m.setup) c.in-None.ensures.machine in
-    let grows = (c.in_ok-found-in-None.ensures.noted here.state here.keeps
+    let e = c.in_ok-found-in-None.ensures in
+    let grows = (e.noted here.state here.keeps
     (subst (λ (q : Setup). IsReached p q here.state) (sym same) here.reached)).grows in
-    subst (λ (hs : List Helper). AreHelpers p z w hs) (sym c.in-None.ensures.helpers)
+    subst (λ (hs : List Helper). AreHelpers p z w hs) (sym (e.helpers ∙ c.in-None.ensures.helpers))
     (helped.helpers_grown p z v w grows c.args.crew.now.helpers.list.items c.requires.helpers)

@@ -10,7 +10,8 @@ use Rattle.lk_reach.specs.Folded.{IsHere, IsNoted}
 use Rattle.lk_reach.specs.Helped.{AreHelpers}
 use Rattle.lk_reach.specs.Reach.{IsReached, after, state_after}
 use Rattle.lk_reach.specs.Space.{Keeps}
-use Rattle.lk_reach.proofs.Kept.{keeps_grown}
+use Rattle.lk_reach.specs.Steps.{AreMade}
+use Rattle.lk_reach.proofs.Kept.{front_at, keeps_grown}
 use Rattle.lk_reach.proofs.apart.Leading as leading
 use Rattle.lk_reach.proofs.Left as left
 use Rattle.lk_reach.proofs.Columns as columns
@@ -25,6 +26,7 @@ here_at-requires g c =
     record {
       low = leading.are_low c.args.plan.now c.args.crew.now.machine.setup c.args.space.now c.args.book.now c.args.state x;
       there = omega (arith, there, count);
+      met = there;
     }
 
 pub loop-number-init : goal.loop-number-init
@@ -46,6 +48,8 @@ loop-number-init g c =
       leads = λ folds. (leading.way_of p c.args.crew.now.machine v b k c.in_ok-here.here.way.items c.requires.begun
           c.requires.explored c.requires.columns c.requires.few c.requires.such c.requires.there (e.way folds)).leads;
       helpers = c.requires.helpers;
+      made = c.requires.made;
+      key = e.key;
     }
 
 pub lead-requires-clause-few : goal.lead-requires-clause-few
@@ -74,6 +78,7 @@ lead-requires-clause-here g c κs outlives =
       begun = c.requires.begun;
       state = half.state;
       keeps = subst (λ (h : ℕ). Keeps v h half.state) (sym state) half.keeps;
+      key = subst (λ (h : ℕ). slice_get v.keys h ≡ Some here.spot.key) (sym state) inv.key;
       reached = half.reached;
       folds = inv.explored.folds;
       moves = inv.moves;
@@ -98,6 +103,11 @@ lead-requires-clause-helpers g c κs outlives =
     let inv = c.loop-number.invariant in
     subst (λ (q : Setup). AreHelpers c.args.plan.now q c.loop-number.space c.loop-number.crew.helpers.list.items) (sym inv.same)
     inv.helpers
+
+pub lead-requires-clause-made : goal.lead-requires-clause-made
+lead-requires-clause-made g c κs outlives =
+    let inv = c.loop-number.invariant in
+    subst (λ (q : Setup). AreMade q c.loop-number.space c.loop-number.crew.steps.made.items) (sym inv.same) inv.made
 
 pub write-requires : goal.write-requires
 write-requires g c =
@@ -127,7 +137,7 @@ loop-number-preserved g c =
     let noted : (s : Machine) → Keeps v k s → IsReached p z s → IsNoted p z v w k (after s a) c.in_ok-then.then =
     (λ s has reached.
     subst (λ (h : ℕ). IsNoted p z v w h (after s a) c.in_ok-then.then) state
-    (subst (λ (q : Setup). IsNoted p q v w c.in_ok-here.here.state (after s a) c.in_ok-then.then) inv.same
+    (subst (λ (q : Setup). IsNoted p q v w c.in_ok-here.here.spot.state (after s a) c.in_ok-then.then) inv.same
     (e.noted s a at (subst (λ (h : ℕ). Keeps v h s) (sym state) has) (subst (λ (q : Setup). IsReached p q s) (sym inv.same) reached)))) in
     let made : left.IsMade p z v w b d k n a = record {
       then = c.in_ok-then.then;
@@ -150,6 +160,10 @@ loop-number-preserved g c =
           let half = inv.half in
           keeps_grown v w (noted half.state half.keeps half.reached).grows k (state_after p z c.in_ok-here.here.way.items)
           (inv.leads folds);
+      key =
+          let half = inv.half in
+          front_at v.keys w.keys (noted half.state half.keeps half.reached).grows.keys k c.in_ok-here.here.spot.key inv.key;
+      made = subst (λ (q : Setup). AreMade q w c.lead.new.crew.steps.made.items) inv.same e.made;
       helpers = subst (λ (q : Setup). AreHelpers p q w c.lead.new.crew.helpers.list.items) inv.same e.helpers;
     }
 
@@ -169,5 +183,6 @@ returns g c =
       columns = columns.columns_next b (length p.acts.items) k c.loop-number.number (omega (arith, size, end)) inv.columns;
       such = inv.such;
       setup = inv.same;
+      made = inv.made;
       helpers = inv.helpers;
     }

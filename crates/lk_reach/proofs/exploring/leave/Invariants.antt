@@ -1,8 +1,10 @@
-use Rattle.std.proofs.Common.{◌≡◌, length, true}
+use Rattle.std.proofs.Common.{◌≡◌, Some, length, true}
+use Rattle.std.specs.Prelude.{slice_get}
 use Rattle.lk_reach.specs.Explored.{AreColumns, IsSuch, IsExplored, IsHalfLeft}
 use Rattle.lk_reach.specs.Helped.{AreHelpers}
 use Rattle.lk_reach.specs.Reach.{AreMoves, state_after}
 use Rattle.lk_reach.specs.Space.{Keeps}
+use Rattle.lk_reach.specs.Steps.{AreMade}
 use Rattle.lk_reach.proofs.exploring.leave.Given as goal
 
 -- the acts so far were tried on the state
@@ -15,5 +17,7 @@ invariant-loop-number g l = record {
   columns : AreColumns l.book (length l.plan.acts.items) l.state l.number;
   moves : l.plan.folds ≡ true → AreMoves l.plan.extras l.fn.crew.machine.setup l.here.way.items;
   leads : l.plan.folds ≡ true → Keeps l.space l.state (state_after l.plan l.fn.crew.machine.setup l.here.way.items);
+  key : slice_get l.space.keys l.state ≡ Some l.here.spot.key;
+  made : AreMade l.fn.crew.machine.setup l.space l.crew.steps.made.items;
   helpers : AreHelpers l.plan l.fn.crew.machine.setup l.space l.crew.helpers.list.items;
 }

@@ -2,10 +2,12 @@ use Rattle.std.proofs.Common.{arith, ◌∙◌, ◌+◌, ap, length, sym, subst}
 use Rattle.std.proofs.lemmas.Option.{slice_get_within}
 use Rattle.lk_rows.specs.declared.setup.Setup.{Setup}
 use Rattle.lk_rows.specs.Machine.{Machine}
+use Rattle.lk_reach.specs.declared.steps.Steps.{Steps}
 use Rattle.lk_reach.specs.Explored.{IsExplored, IsSuch}
 use Rattle.lk_reach.specs.Helped.{AreHelpers, MayLook}
 use Rattle.lk_reach.specs.Reach.{IsBegun}
 use Rattle.lk_reach.specs.Space.{SpaceValue}
+use Rattle.lk_reach.specs.Steps.{AreMade}
 use Rattle.lk_reach.proofs.exploring.leave_all.Goals as goal
 
 pub look_ahead-requires-clause-may : goal.look_ahead-requires-clause-may
@@ -57,6 +59,15 @@ leave-requires-clause-helpers g c κs outlives =
     subst (λ (q : Setup). AreHelpers c.args.plan.now q c.look_ahead.new.space c.look_ahead.new.self.helpers.list.items)
     (sym (ap (λ (m : Machine). m.setup) e.machine)) e.helpers
 
+pub leave-requires-clause-made : goal.leave-requires-clause-made
+leave-requires-clause-made g c κs outlives =
+    let e = c.look_ahead.ensures in
+    let same = ap (λ (m : Machine). m.setup) e.machine ∙ c.loop-state.invariant.same in
+    subst (λ (q : Setup). AreMade q c.look_ahead.new.space c.look_ahead.new.self.steps.made.items) (sym same)
+    (subst (λ (v : SpaceValue). AreMade c.args.crew.now.machine.setup v c.look_ahead.new.self.steps.made.items) (sym e.space)
+    (subst (λ (x : Steps). AreMade c.args.crew.now.machine.setup c.loop-state.space x.made.items) (sym e.steps)
+    c.loop-state.invariant.made))
+
 pub leave-requires-clause-there : goal.leave-requires-clause-there
 leave-requires-clause-there g c κs outlives =
     let within = c.loop-state.invariant.within in
@@ -95,6 +106,7 @@ loop-state-preserved g c =
       same = e.setup ∙ same;
       explored = explored;
       columns = e.columns;
+      made = subst (λ (q : Setup). AreMade q w c.leave.new.crew.steps.made.items) same e.made;
       helpers = subst (λ (q : Setup). AreHelpers p q w c.leave.new.crew.helpers.list.items) same e.helpers;
       within = omega (arith, low);
     }

@@ -1,6 +1,7 @@
 use Rattle.std.proofs.Common.{◌≡◌, ◌≤◌, length}
 use Rattle.lk_reach.specs.Explored.{AreColumns, IsSuch, IsExplored}
 use Rattle.lk_reach.specs.Helped.{AreHelpers}
+use Rattle.lk_reach.specs.Steps.{AreMade}
 use Rattle.lk_reach.proofs.exploring.leave_all.Given as goal
 
 -- the states before this one are left
@@ -10,6 +11,7 @@ invariant-loop-state g l = record {
   same : l.crew.machine.setup ≡ l.fn.crew.machine.setup;
   explored : IsExplored l.plan l.fn.crew.machine.setup l.space l.book l.state;
   columns : AreColumns l.book (length l.plan.acts.items) l.state 0;
+  made : AreMade l.fn.crew.machine.setup l.space l.crew.steps.made.items;
   helpers : AreHelpers l.plan l.fn.crew.machine.setup l.space l.crew.helpers.list.items;
   within : l.state ≤ length l.space.keys;
 }

@@ -87,7 +87,7 @@ note_fold-requires c =
     let made : IsSuch z c.make.new.machine =
     subst (λ (q : Setup). IsSuch q c.make.new.machine) (ap (λ (m : Machine). m.setup) there ∙ such.setup) c.make.ensures.such in
     let folds = h.folds c.requires.folds in
-    let low = slice_get_within c.args.space.now.keys c.args.here.now.state h.keeps.key h.keeps.is in
+    let low = slice_get_within c.args.space.now.keys c.args.here.now.spot.state h.keeps.key h.keeps.is in
     let keys = ap (λ (ks : List Key). length ks) e.states.keys in
     let more = ap (λ (ks : List Key). length ks) e.states.folds in
     let count = folds.count in
@@ -110,9 +110,9 @@ returns-in-Some c =
     let w = c.key.new.self in
     let k = c.in-Some.number in
     let e = c.in_ok-key.ensures in
-    let low = slice_get_within v.keys c.args.here.now.state h.keeps.key h.keeps.is in
+    let low = slice_get_within v.keys c.args.here.now.spot.state h.keeps.key h.keeps.is in
     record {
-      noted = noted.like_noted p z h.begun v w c.args.here.now.state k m c.requires.such (h.folds c.requires.folds) e.states low
+      noted = noted.like_noted p z h.begun v w c.args.here.now.spot.state k m c.requires.such (h.folds c.requires.folds) e.states low
           c.in-Some.ensures.same
           (λ s has kind. c.in-Some.ensures.alike s m (subst (λ i. Keeps w i s) c.in-Some.ensures.same has) e.key kind);
       such = subst (λ (q : Machine). IsSuch z q) (sym e.machine) c.requires.such;
@@ -147,7 +147,7 @@ returns c =
     let reached : IsReached p z m = subst (λ (q : Machine). IsReached p z q) (sym behind)
     (closed.reached_then folded.laws p z h.begun h.state c.args.doing h.reached c.requires.moves) in
     record {
-      noted = noted.fold_noted p z h.begun v u w c.args.here.now.state k m n c.in_ok-key.key r fits reached c.requires.folds is
+      noted = noted.fold_noted p z h.begun v u w c.args.here.now.spot.state k m n c.in_ok-key.key r fits reached c.requires.folds is
           (h.folds c.requires.folds) e.states e.key f.grows (left.grows_then v u w e.states.grows f.grows) f.there f.other f.alike
           f.one f.folds;
       such = subst (λ (q : Machine). IsSuch z q) (sym f.machine) made;

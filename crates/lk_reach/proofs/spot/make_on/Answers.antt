@@ -85,7 +85,7 @@ returns-clause-made c i e is =
       | inr by ↦
           let f = by.0 in
           let step : a ≡ act.Step f.0 = subst (λ (o : Option (ℕ × ℕ)). IfSome o (λ g. a ≡ act.Step g.0)) by.1 t.ensures.step in
-          was_made z v spot (record { key = c.in_ok-key.key; event = c.make-event.result }) a n f e such before step
+          was_made z v spot (record { key = c.in_ok-key.key; hash = c.hash_of-hash.result; event = c.make-event.result }) a n f e such before step
           (step_low a f.0 (length n.cpus) step low)
           (subst (λ (o : Option (ℕ × ℕ)). IfSome o (λ g. g.1 < length n.cpus)) by.1 t.ensures.other)
           (subst (λ (o : Option (ℕ × ℕ)). IfSome o (λ g. Touches n g.0 g.1)) by.1 t.ensures.touches) by.2 then_such

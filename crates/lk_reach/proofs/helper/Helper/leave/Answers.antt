@@ -29,14 +29,14 @@ find-found-requires-clause-spot c =
     let z = c.args.self.now.machine.setup in
     let may = c.requires.ready.may in
     let g = may.good c.args.state c.requires.there in
-    subst (λ (q : Setup). IsSpot q v (record { state = c.args.state; key = c.key_at.result })) (sym inv.same) (record {
+    subst (λ (q : Setup). IsSpot q v (record { state = c.args.state; key = c.key_at-key.result; hash = c.hash_of-hash.result })) (sym inv.same) (record {
       stepped = record {
         state = g.state;
         keeps = g.keeps;
         such = closed.reached_such folded.laws p z may.begun g.state g.reached;
         sound = closed.reached_sound folded.laws p z may.begun g.state g.reached;
       };
-      is = c.key_at.ensures;
+      is = c.key_at-key.ensures;
     })
 
 pub loop-act-preserved : goal.loop-act-preserved

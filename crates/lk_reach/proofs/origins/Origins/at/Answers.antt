@@ -1,7 +1,7 @@
 use Rattle.std.proofs.Common.{◌≡◌, ◌∙◌, ℕ, List, ap, arith, length, subst, Some}
 use Rattle.std.specs.Prelude.{slice_get}
 use Rattle.lk_reach.specs.declared.origin.Origin.{Origin}
-use Rattle.lk_reach.specs.Numbers.{number_at, origin_at}
+use Rattle.lk_reach.specs.Numbers.{number_at, origin_at, place_at}
 use Rattle.lk_reach.proofs.Listed.{listed_get, listed_length}
 use Rattle.lk_reach.proofs.origins.Origins.at.Goals as goal
 
@@ -20,5 +20,5 @@ returns c =
     let low = c.requires in
     subst (λ (xs : List Origin). slice_get xs n ≡ Some (origin_with c.get.result c.get-2.result c.get-3.result)) c.self.view_is
     (listed_get o.count (λ i. origin_at o.states o.acts o.levels i) n (omega (arith, low, size, count))
-    ∙ ap Some (same_origin (number_at o.states n) c.get.result (number_at o.acts n) c.get-2.result (number_at o.levels n)
+    ∙ ap Some (same_origin (place_at o.states n) c.get.result (number_at o.acts n) c.get-2.result (number_at o.levels n)
     c.get-3.result c.get.ensures c.get-2.ensures c.get-3.ensures))

@@ -1,6 +1,6 @@
 use Rattle.std.proofs.Common.{◌≡◌, ◌∙◌, ◌++◌, ◌∷◌, [], ℕ, List, ap, arith}
 use Rattle.lk_reach.specs.declared.origin.Origin.{Origin}
-use Rattle.lk_reach.specs.Numbers.{number_at, origin_at}
+use Rattle.lk_reach.specs.Numbers.{number_at, origin_at, place_at}
 use Rattle.lk_reach.proofs.Listed.{listed_more}
 use Rattle.lk_reach.proofs.origins.Origins.push.Goals as goal
 
@@ -21,8 +21,8 @@ returns c =
     (λ i. origin_at c.put.new.self c.put-2.new.self c.put-3.new.self i) origin
     (λ i low.
     let ne : (i ≡ o.count → ⊥) = λ e. omega (arith, e, low) in
-    same_origin (number_at o.states i) (number_at c.put.new.self i) (number_at o.acts i) (number_at c.put-2.new.self i)
+    same_origin (place_at o.states i) (place_at c.put.new.self i) (number_at o.acts i) (number_at c.put-2.new.self i)
     (number_at o.levels i) (number_at c.put-3.new.self i) (states.others i ne) (acts.others i ne) (levels.others i ne))
-    (same_origin origin.state (number_at c.put.new.self o.count) origin.act (number_at c.put-2.new.self o.count) origin.level
+    (same_origin origin.state (place_at c.put.new.self o.count) origin.act (number_at c.put-2.new.self o.count) origin.level
     (number_at c.put-3.new.self o.count) states.here acts.here levels.here)
     ∙ ap (λ (xs : List Origin). xs ++ origin ∷ []) c.self.view_is

@@ -4,7 +4,7 @@ use Rattle.lk_reach.proofs.space.Space.note_key.Goals as goal
 
 pub returns : goal.returns
 returns c =
-    let w = c.number_new.new.self in
+    let w = c.number.new.self in
     let key = c.args.key.now in
     let e = c.in_ok-number.ensures in
     let k = c.in_ok-number.number in
