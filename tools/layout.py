@@ -4,7 +4,7 @@ from collections import defaultdict
 MOST_LINES = 500
 MOST_ENTRIES = 40
 # A folder in which a reader finds the way by a page: docs/ARCHITECTURE.md has the crates by layer.
-MOST_WITH_A_PAGE = {"crates": 60}
+MOST_WITH_A_PAGE = {"crates": 61}
 # What has no lines.
 PICTURES = (".png",)
 

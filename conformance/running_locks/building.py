@@ -11,7 +11,7 @@ from pathlib import Path
 
 HERE = Path(__file__).resolve().parent
 TOP = HERE.parent.parent
-BELOW = "lk_abs lk_word lk_text lk_rows lk_law lk_waits lk_values lk_cell lk_forms lk_domain lk_run lk_pvdomain"
+BELOW = "lk_names lk_word lk_text lk_rows lk_law lk_waits lk_values lk_cell lk_forms lk_domain lk_run lk_pvdomain"
 
 # A comment of a function that is a row, up to the function's body, and the one row whose function has no such comment.
 COMMENT = re.compile(r"((?:^ *//.*\n)+)((?: *#\[.*\]\n)*)((?: *(?:pub(?:\(crate\))? )?fn (\w+)(?s:.*?)\n)( *)\{\n)", re.M)

@@ -4,19 +4,19 @@ use Rattle.std.specs.Prelude.{not, nat_lt, ◌||◌}
 use Rattle.std.specs.List.{All}
 use Rattle.std.proofs.lemmas.Bool.{cases_Bool, ltb-false}
 use Rattle.std.proofs.lemmas.List.Elements.{All-nil, All-cons, All-append}
-use Rattle.lk_abs.specs.History.{LockHistory, changed, history_of}
-use Rattle.lk_abs.specs.Lawful.{Rules, InOrder, IsOrdered, IsLawful, is_far, is_local, movable, lawful_moves, same_socket}
-use Rattle.lk_abs.specs.declared.names.Format.{Format}
-use Rattle.lk_abs.specs.declared.names.Format.TheVariants.{One, Two}
-use Rattle.lk_abs.specs.declared.names.Mode.{Mode}
-use Rattle.lk_abs.specs.declared.names.Mode.TheVariants.{Virt, Native, Cna, Pv}
-use Rattle.lk_abs.specs.declared.names.Waiter.{Waiter}
-use Rattle.lk_abs.specs.declared.names.LockName.{LockName}
-use Rattle.lk_abs.specs.declared.events.Event.{Event}
-use Rattle.lk_abs.specs.declared.events.What.{What}
-use Rattle.lk_abs.specs.declared.events.What.TheVariants.{Take, Pass, Flush, Promote}
+use Rattle.lk_names.specs.History.{LockHistory, changed, history_of}
+use Rattle.lk_names.specs.Lawful.{Rules, InOrder, IsOrdered, IsLawful, is_far, is_local, movable, lawful_moves, same_socket}
+use Rattle.lk_names.specs.declared.names.Format.{Format}
+use Rattle.lk_names.specs.declared.names.Format.TheVariants.{One, Two}
+use Rattle.lk_names.specs.declared.names.Mode.{Mode}
+use Rattle.lk_names.specs.declared.names.Mode.TheVariants.{Virt, Native, Cna, Pv}
+use Rattle.lk_names.specs.declared.names.Waiter.{Waiter}
+use Rattle.lk_names.specs.declared.names.LockName.{LockName}
+use Rattle.lk_names.specs.declared.events.Event.{Event}
+use Rattle.lk_names.specs.declared.events.What.{What}
+use Rattle.lk_names.specs.declared.events.What.TheVariants.{Take, Pass, Flush, Promote}
 use Rattle.lk_abs.proofs.Clauses.{second-taken}
-use Rattle.lk_abs.proofs.Moments.{OfEachEvent-front, OfEachEvent-now, by_events}
+use Rattle.lk_names.proofs.Moments.{OfEachEvent-front, OfEachEvent-now, by_events}
 use Rattle.lk_abs.proofs.OneMore.{told-keeps, Ordered}
 
 -- the waiter is a task

@@ -7,14 +7,14 @@ use Rattle.std.proofs.lemmas.Option.{none-some, same_Some}
 use Rattle.std.proofs.lemmas.List.{length-map}
 use Rattle.std.proofs.lemmas.List.Elements.{All-nil, All-cons, All-head, All-push, All-tail}
 use Rattle.std.proofs.lemmas.Map.Keys.{IsDistinct-push}
-use Rattle.lk_abs.specs.Names.{same_waiter}
-use Rattle.lk_abs.specs.ListOf.{ListOf}
-use Rattle.lk_abs.specs.History.{is_hold, without}
+use Rattle.lk_names.specs.Names.{same_waiter}
+use Rattle.lk_names.specs.ListOf.{ListOf}
+use Rattle.lk_names.specs.History.{is_hold, without}
 use Rattle.lk_abs.specs.Breaches.{is_among}
-use Rattle.lk_abs.specs.Lists.{IsOneOf, IsHeld, waiters_of}
-use Rattle.lk_abs.specs.declared.holder.Manner.{Manner}
-use Rattle.lk_abs.specs.declared.holder.Holder.{Holder}
-use Rattle.lk_abs.specs.declared.names.Waiter.{Waiter}
+use Rattle.lk_names.specs.Lists.{IsOneOf, IsHeld, waiters_of}
+use Rattle.lk_names.specs.declared.holder.Manner.{Manner}
+use Rattle.lk_names.specs.declared.holder.Holder.{Holder}
+use Rattle.lk_names.specs.declared.names.Waiter.{Waiter}
 use Rattle.lk_abs.proofs.QueueRoom.{same_waiter-equivalence, not_among, queue_within}
 
 waiters-push : (xs : List Holder) (x : Holder) → waiters_of (xs ++ x ∷ []) ≡ waiters_of xs ++ x.waiter ∷ []

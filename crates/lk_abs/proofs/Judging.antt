@@ -7,22 +7,22 @@ use Rattle.std.proofs.lemmas.Bool.{cases_Bool, false_from_ne_true, true≢false}
 use Rattle.std.proofs.lemmas.List.{length_push}
 use Rattle.std.proofs.lemmas.Option.{none-some, same_Some, slice_get_past}
 use Rattle.std.specs.Option.{option_or}
-use Rattle.lk_abs.specs.Names.{place_of}
-use Rattle.lk_abs.specs.History.{LockHistory, no_history, lock_of, is_on, changed, told, history_of}
-use Rattle.lk_abs.specs.Kicks.{KickState, kicks_of, kicks_told}
-use Rattle.lk_abs.specs.Lawful.{Rules, FrontIsOwed, IsLawful}
+use Rattle.lk_names.specs.Names.{place_of}
+use Rattle.lk_names.specs.History.{LockHistory, no_history, lock_of, is_on, changed, told, history_of}
+use Rattle.lk_names.specs.Kicks.{KickState, kicks_of, kicks_told}
+use Rattle.lk_names.specs.Lawful.{Rules, FrontIsOwed, IsLawful}
 use Rattle.lk_abs.specs.Breaches.{first_breach}
 use Rattle.lk_abs.specs.NoKick.{unkicked}
 use Rattle.lk_abs.specs.Remembered.{state_of}
 use Rattle.lk_abs.specs.Judge.{KeptLock, JudgeState, IsInRange, kept_history, history_at, breach_on, table_breach, kick_breach, breach_of, Events, TellsLocks, TakesOne, HasTaken}
-use Rattle.lk_abs.specs.declared.names.Mode.TheVariants.{Pv}
-use Rattle.lk_abs.specs.declared.names.LockName.{LockName}
-use Rattle.lk_abs.specs.declared.events.Breach.{Breach}
-use Rattle.lk_abs.specs.declared.events.Event.{Event}
+use Rattle.lk_names.specs.declared.names.Mode.TheVariants.{Pv}
+use Rattle.lk_names.specs.declared.names.LockName.{LockName}
+use Rattle.lk_names.specs.declared.events.Breach.{Breach}
+use Rattle.lk_names.specs.declared.events.Event.{Event}
 use Rattle.lk_abs.specs.declared.kick_record.KickRecord.{KickRecord}
-use Rattle.lk_abs.proofs.Moments.{history_of-push}
+use Rattle.lk_names.proofs.Moments.{history_of-push}
 use Rattle.lk_abs.proofs.Sameness.{is_on-true, is_on-from}
-use Rattle.lk_abs.proofs.Places.{slice_get-set_same, slice_get-set_other, set-slice_get}
+use Rattle.lk_names.proofs.Places.{slice_get-set_same, slice_get-set_other, set-slice_get}
 use Rattle.lk_abs.proofs.Clauses.{or-none, none-or}
 use Rattle.lk_abs.proofs.Kicking.{kicks_of-push}
 use Rattle.lk_abs.proofs.Unkicked.{unkicked-exact}

@@ -2,18 +2,18 @@
 use Rattle.std.proofs.Common.{◌≡◌, ◌≢◌, ◌<◌, ◌+◌, ◌*◌, ℕ, List, [], ◌∷◌, ◌++◌, Bool, true, false, Some, refl, sym, ap, subst, ◌∙◌, inl, inr, arith, eqb, length-set}
 use Rattle.std.specs.Prelude.{slice_set, nat_lt, ◌==◌, if◌then◌else◌}
 use Rattle.std.proofs.lemmas.Option.{same_Some}
-use Rattle.lk_abs.specs.ListOf.{ListOf}
-use Rattle.lk_abs.specs.declared.names.LockName.{LockName}
-use Rattle.lk_abs.specs.declared.events.What.TheVariants.{Kick, Release, Wake}
+use Rattle.lk_names.specs.ListOf.{ListOf}
+use Rattle.lk_names.specs.declared.names.LockName.{LockName}
+use Rattle.lk_names.specs.declared.events.What.TheVariants.{Kick, Release, Wake}
 use Rattle.std.specs.List.{slice_get}
 use Rattle.std.proofs.lemmas.Bool.{cases_Bool, eqb-true, eq-eqb, ltb-true, ltb-false, true≢false}
-use Rattle.lk_abs.specs.Kicks.{sleeps_from, sleeps_after, owes, owing, kicks, kicks_made, kicked_after, is_kicked_from, kicks_of, kicks_told}
-use Rattle.lk_abs.specs.Lists.{waiter_number}
+use Rattle.lk_names.specs.Kicks.{sleeps_from, sleeps_after, owes, owing, kicks, kicks_made, kicked_after, is_kicked_from, kicks_of, kicks_told}
+use Rattle.lk_names.specs.Lists.{waiter_number}
 use Rattle.lk_abs.specs.Remembered.{IsRoused, IsToldOn}
-use Rattle.lk_abs.specs.declared.names.Waiter.{Waiter}
-use Rattle.lk_abs.specs.declared.events.Event.{Event}
+use Rattle.lk_names.specs.declared.names.Waiter.{Waiter}
+use Rattle.lk_names.specs.declared.events.Event.{Event}
 use Rattle.lk_abs.specs.declared.kick_record.KickRecord.{KickRecord}
-use Rattle.lk_abs.proofs.Places.{slice_get-set_same, slice_get-set_other}
+use Rattle.lk_names.proofs.Places.{slice_get-set_same, slice_get-set_other}
 
 pub roused-step : (old now : List Bool) (i n : ℕ) (b : Bool) → IsRoused old now i n → slice_get now (i + n) ≡ Some b → IsRoused old (slice_set now (i + n) false) i (n + 1)
 roused-step old now i n b was at =

@@ -1,4 +1,3 @@
-pub mod Moments
 pub mod Sameness
 pub mod Sharing
 pub mod Clauses
@@ -8,11 +7,8 @@ pub mod Steps
 pub mod QueueRoom
 pub mod Holding
 pub mod Telling
-pub mod Places
 pub mod Kicking
 pub mod Recording
 pub mod Unkicked
 pub mod Judging
-pub mod Sums
 pub mod Aside
-pub mod ByIndex

@@ -5,17 +5,17 @@ use Rattle.std.specs.List.{All}
 use Rattle.std.proofs.lemmas.Bool.{cases_Bool}
 use Rattle.std.proofs.lemmas.List.Elements.{All-nil}
 use Rattle.std.proofs.lemmas.Option.{none-some, same_Some}
-use Rattle.lk_abs.specs.History.{LockHistory, lock_of, is_on, changed, history_of}
-use Rattle.lk_abs.specs.Lawful.{Rules, IsShared, OwnsUp, InOrder, IsOrdered, FrontIsOwed, IsLawful}
+use Rattle.lk_names.specs.History.{LockHistory, lock_of, is_on, changed, history_of}
+use Rattle.lk_names.specs.Lawful.{Rules, IsShared, OwnsUp, InOrder, IsOrdered, FrontIsOwed, IsLawful}
 use Rattle.lk_abs.specs.Allowed.{IsAllowed}
 use Rattle.lk_abs.specs.Breaches.{first_breach}
-use Rattle.lk_abs.specs.declared.names.Mode.TheVariants.{Pv}
-use Rattle.lk_abs.specs.declared.names.Waiter.{Waiter}
-use Rattle.lk_abs.specs.declared.names.LockName.{LockName}
-use Rattle.lk_abs.specs.declared.events.Event.{Event}
-use Rattle.lk_abs.specs.declared.events.What.{What}
-use Rattle.lk_abs.specs.declared.events.What.TheVariants.{Take, Pass, Flush, Promote}
-use Rattle.lk_abs.proofs.Moments.{AtEachMoment-nil, AtEachMoment-push, AtEachMoment-front, AtEachMoment-now, OfEachEvent-nil, OfEachEvent-push, OfEachEvent-front, OfEachEvent-now, history_of-push, by_events}
+use Rattle.lk_names.specs.declared.names.Mode.TheVariants.{Pv}
+use Rattle.lk_names.specs.declared.names.Waiter.{Waiter}
+use Rattle.lk_names.specs.declared.names.LockName.{LockName}
+use Rattle.lk_names.specs.declared.events.Event.{Event}
+use Rattle.lk_names.specs.declared.events.What.{What}
+use Rattle.lk_names.specs.declared.events.What.TheVariants.{Take, Pass, Flush, Promote}
+use Rattle.lk_names.proofs.Moments.{AtEachMoment-nil, AtEachMoment-push, AtEachMoment-front, AtEachMoment-now, OfEachEvent-nil, OfEachEvent-push, OfEachEvent-front, OfEachEvent-now, history_of-push, by_events}
 use Rattle.lk_abs.proofs.Sameness.{is_on-true, is_on-from}
 use Rattle.lk_abs.proofs.Clauses.{passes-taken, second-taken, counts-passed}
 use Rattle.lk_abs.proofs.Table.{allowed_from_none, none_from_allowed}

@@ -10,15 +10,15 @@ use Rattle.std.proofs.lemmas.List.Folds.{Any-from_list_any}
 use Rattle.std.proofs.lemmas.Option.{none-some, same_Some}
 use Rattle.std.proofs.lemmas.Map.Keys.{IsDistinct-from_apart, apart_from_distinct}
 use Rattle.std.proofs.lemmas.Map.Steps.{length-le_from_distinct_below}
-use Rattle.lk_abs.specs.Names.{same_waiter}
-use Rattle.lk_abs.specs.ListOf.{ListOf}
+use Rattle.lk_names.specs.Names.{same_waiter}
+use Rattle.lk_names.specs.ListOf.{ListOf}
 use Rattle.lk_abs.specs.Breaches.{is_among, is_queued}
-use Rattle.lk_abs.specs.Lists.{waiter_number, IsOneOf, IsInOrder, standing, history_of_lists, lists_passed, lists_rejoined}
-use Rattle.lk_abs.specs.declared.holder.Holder.{Holder}
+use Rattle.lk_names.specs.Lists.{waiter_number, IsOneOf, IsInOrder, standing, history_of_lists, lists_passed, lists_rejoined}
+use Rattle.lk_names.specs.declared.holder.Holder.{Holder}
 use Rattle.lk_abs.proofs.Steps.{drop-rest}
 use Rattle.std.proofs.lemmas.List.Sums.{sum_by-append, sum_by-cons}
-use Rattle.lk_abs.specs.declared.names.Waiter.{Waiter}
-use Rattle.lk_abs.specs.declared.events.Lists.{Lists}
+use Rattle.lk_names.specs.declared.names.Waiter.{Waiter}
+use Rattle.lk_names.specs.declared.events.Lists.{Lists}
 use Rattle.lk_abs.proofs.Sameness.{waiter_from_parts, same_waiter-true, same_waiter-refl, same_waiter-from}
 
 -- ---- names of waiters

@@ -6,14 +6,14 @@ use Rattle.std.proofs.lemmas.Bool.{cases_Bool, and_parts, eqb-true, ltb-true, lt
 use Rattle.std.proofs.lemmas.List.{get_or_past, get_or-replicate, length-replicate}
 use Rattle.std.proofs.lemmas.List.Elements.{All-weaker, All-from_get_or}
 use Rattle.std.proofs.lemmas.Option.{get_or_from_slice_get, slice_get-get_or}
-use Rattle.lk_abs.specs.Names.{same_waiter}
-use Rattle.lk_abs.specs.Kicks.{sleeps_after, owes, kicks, kicked_after, kicks_of, kicks_told}
-use Rattle.lk_abs.specs.Lists.{waiter_number}
+use Rattle.lk_names.specs.Names.{same_waiter}
+use Rattle.lk_names.specs.Kicks.{sleeps_after, owes, kicks, kicked_after, kicks_of, kicks_told}
+use Rattle.lk_names.specs.Lists.{waiter_number}
 use Rattle.lk_abs.specs.Remembered.{state_of, HasRoom, IsNamed, IsNamedBy, IsToldOn}
-use Rattle.lk_abs.specs.declared.names.Waiter.{Waiter}
-use Rattle.lk_abs.specs.declared.events.Event.{Event}
-use Rattle.lk_abs.specs.declared.events.What.{What}
-use Rattle.lk_abs.specs.declared.events.What.TheVariants.{Kick, Release, Halt, Wake, Int, Nudge}
+use Rattle.lk_names.specs.declared.names.Waiter.{Waiter}
+use Rattle.lk_names.specs.declared.events.Event.{Event}
+use Rattle.lk_names.specs.declared.events.What.{What}
+use Rattle.lk_names.specs.declared.events.What.TheVariants.{Kick, Release, Halt, Wake, Int, Nudge}
 use Rattle.lk_abs.specs.declared.kick_record.KickRecord.{KickRecord}
 
 -- ---- a list of one item reads as that item

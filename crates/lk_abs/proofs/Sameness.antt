@@ -3,15 +3,15 @@ use Rattle.std.proofs.Common.{◌≡◌, ◌<◌, ℕ, List, Bool, true, false, 
 use Rattle.std.specs.List.{list_any, Contains}
 use Rattle.std.proofs.lemmas.Bool.{and_parts, and_from, or_cases, or_parts, eqb-true, eq-eqb, false_from_ne_true, true≢false}
 use Rattle.std.proofs.lemmas.List.Folds.{Any-from_list_any, list_any_at}
-use Rattle.lk_abs.specs.Names.{same_bool, same_lock, same_waiter}
-use Rattle.lk_abs.specs.History.{LockHistory, same_manner, is_hold, is_on}
-use Rattle.lk_abs.specs.declared.holder.Manner.{Manner}
-use Rattle.lk_abs.specs.declared.holder.Manner.TheVariants.{Spins, Reads, Writes}
-use Rattle.lk_abs.specs.declared.holder.Holder.{Holder}
-use Rattle.lk_abs.specs.Lawful.{Holds, HoldsSo, IsOutside}
+use Rattle.lk_names.specs.Names.{same_bool, same_lock, same_waiter}
+use Rattle.lk_names.specs.History.{LockHistory, same_manner, is_hold, is_on}
+use Rattle.lk_names.specs.declared.holder.Manner.{Manner}
+use Rattle.lk_names.specs.declared.holder.Manner.TheVariants.{Spins, Reads, Writes}
+use Rattle.lk_names.specs.declared.holder.Holder.{Holder}
+use Rattle.lk_names.specs.Lawful.{Holds, HoldsSo, IsOutside}
 use Rattle.lk_abs.specs.Breaches.{holds, holds_so, is_among, is_queued, is_waiter}
-use Rattle.lk_abs.specs.declared.names.Waiter.{Waiter}
-use Rattle.lk_abs.specs.declared.names.LockName.{LockName}
+use Rattle.lk_names.specs.declared.names.Waiter.{Waiter}
+use Rattle.lk_names.specs.declared.names.LockName.{LockName}
 
 -- two names of one waiter are one name
 pub waiter_from_parts : (a b : Waiter) → a.cpu ≡ b.cpu → a.ctx ≡ b.ctx → a ≡ b

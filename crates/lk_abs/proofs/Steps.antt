@@ -6,12 +6,12 @@ use Rattle.std.proofs.lemmas.Bool.{cases_Bool, le-ltb, lt-ltb, ltb-false}
 use Rattle.std.proofs.lemmas.List.{length-map, map-append}
 use Rattle.std.specs.Option.{option_or}
 use Rattle.std.proofs.lemmas.Option.{none-some, same_Some}
-use Rattle.lk_abs.specs.History.{LockHistory}
-use Rattle.lk_abs.specs.Lawful.{Rules, movable}
+use Rattle.lk_names.specs.History.{LockHistory}
+use Rattle.lk_names.specs.Lawful.{Rules, movable}
 use Rattle.lk_abs.specs.Breaches.{first_over, moved_over, over_threshold}
-use Rattle.lk_abs.specs.declared.events.What.TheVariants.{Pass}
-use Rattle.lk_abs.specs.declared.names.Waiter.{Waiter}
-use Rattle.lk_abs.specs.declared.names.LockName.{LockName}
+use Rattle.lk_names.specs.declared.events.What.TheVariants.{Pass}
+use Rattle.lk_names.specs.declared.names.Waiter.{Waiter}
+use Rattle.lk_names.specs.declared.names.LockName.{LockName}
 
 pub suc_is : (n : ℕ) → suc n ≡ n + 1
 suc_is n = omega arith

@@ -5,19 +5,19 @@ use Rattle.std.specs.List.{list_any, slice_get, All}
 use Rattle.std.proofs.lemmas.Bool.{cases_Bool, or_parts, or_from, not-false, not_from_true, ltb-false, le-ltb, true≢false, false_from_ne_true}
 use Rattle.std.proofs.lemmas.List.Elements.{All-nil}
 use Rattle.std.proofs.lemmas.Option.{none-some}
-use Rattle.lk_abs.specs.History.{LockHistory, passed, changed}
-use Rattle.lk_abs.specs.declared.holder.Manner.TheVariants.{Spins, Reads, Writes}
-use Rattle.lk_abs.specs.declared.holder.Holder.{Holder}
-use Rattle.lk_abs.specs.Lawful.{Rules, IsShared, Holds, OwnsUp, IsFront, TakesInOrder, InOrder, lawful_moves, writes}
+use Rattle.lk_names.specs.History.{LockHistory, passed, changed}
+use Rattle.lk_names.specs.declared.holder.Manner.TheVariants.{Spins, Reads, Writes}
+use Rattle.lk_names.specs.declared.holder.Holder.{Holder}
+use Rattle.lk_names.specs.Lawful.{Rules, IsShared, Holds, OwnsUp, IsFront, TakesInOrder, InOrder, lawful_moves, writes}
 use Rattle.lk_abs.specs.Allowed.{IsAllowed}
 use Rattle.lk_abs.specs.Breaches.{breach_if, holds, is_queued, beside_first, beside, not_holder, twice, not_front, wrong_head, wrong_move, wrong_next, over_threshold, first_breach}
-use Rattle.lk_abs.specs.declared.names.Waiter.{Waiter}
-use Rattle.lk_abs.specs.declared.names.LockName.{LockName}
-use Rattle.lk_abs.specs.declared.events.How.{How}
-use Rattle.lk_abs.specs.declared.events.How.TheVariants.{Head, Sole}
-use Rattle.lk_abs.specs.declared.events.What.{What}
-use Rattle.lk_abs.specs.declared.events.What.TheVariants.{Take, Release, Arrive, Pass, Flush, Promote, Leave, RTake, RRelease, WTake, WRelease}
-use Rattle.lk_abs.specs.declared.events.Breach.{Breach}
+use Rattle.lk_names.specs.declared.names.Waiter.{Waiter}
+use Rattle.lk_names.specs.declared.names.LockName.{LockName}
+use Rattle.lk_names.specs.declared.events.How.{How}
+use Rattle.lk_names.specs.declared.events.How.TheVariants.{Head, Sole}
+use Rattle.lk_names.specs.declared.events.What.{What}
+use Rattle.lk_names.specs.declared.events.What.TheVariants.{Take, Release, Arrive, Pass, Flush, Promote, Leave, RTake, RRelease, WTake, WRelease}
+use Rattle.lk_names.specs.declared.events.Breach.{Breach}
 use Rattle.lk_abs.proofs.Sameness.{holds-true, holds-from, holds_so-true, holds_so-from, is_queued-false, is_queued-from, is_waiter-true, is_waiter-from}
 use Rattle.lk_abs.proofs.Sharing.{free_from_shared, shared_from_free, readers_from_shared, shared_from_readers, shared-without}
 use Rattle.lk_abs.proofs.Clauses.{none-false, false-none, IsClear, clear_from_none, none_from_clear, holders-taken, passes-taken, counts-passed, over-none, none-over}

@@ -3,22 +3,22 @@ use Rattle.std.proofs.Common.{◌≡◌, ◌<◌, ◌≤◌, ℕ, get_or, arith,
 use Rattle.std.specs.List.{slice_get, All}
 use Rattle.std.proofs.lemmas.Bool.{or_parts, false_from_ne_true}
 use Rattle.std.proofs.lemmas.Option.{slice_get_within}
-use Rattle.lk_abs.specs.ListOf.{ListOf}
-use Rattle.lk_abs.specs.History.{LockHistory, taken, with_holder, passed, changed}
-use Rattle.lk_abs.specs.declared.holder.Manner.TheVariants.{Spins}
-use Rattle.lk_abs.specs.Lawful.{Rules, Holds}
+use Rattle.lk_names.specs.ListOf.{ListOf}
+use Rattle.lk_names.specs.History.{LockHistory, taken, with_holder, passed, changed}
+use Rattle.lk_names.specs.declared.holder.Manner.TheVariants.{Spins}
+use Rattle.lk_names.specs.Lawful.{Rules, Holds}
 use Rattle.lk_abs.specs.Breaches.{first_breach, holds, is_queued, not_front, wrong_head}
-use Rattle.lk_abs.specs.Lists.{history_of_lists, lists_passed}
+use Rattle.lk_names.specs.Lists.{history_of_lists, lists_passed}
 use Rattle.lk_abs.specs.Judge.{KeptLock}
-use Rattle.lk_abs.specs.declared.holder.Holder.{Holder}
-use Rattle.lk_abs.specs.declared.names.Waiter.{Waiter}
-use Rattle.lk_abs.specs.declared.names.LockName.{LockName}
-use Rattle.lk_abs.specs.declared.events.How.{How}
-use Rattle.lk_abs.specs.declared.events.RwHow.{RwHow}
-use Rattle.lk_abs.specs.declared.events.How.TheVariants.{Sole}
-use Rattle.lk_abs.specs.declared.events.Lists.{Lists}
-use Rattle.lk_abs.specs.declared.events.What.{What}
-use Rattle.lk_abs.specs.declared.events.What.TheVariants.{Take, Arrive, Pass, Leave, RTake, WTake}
+use Rattle.lk_names.specs.declared.holder.Holder.{Holder}
+use Rattle.lk_names.specs.declared.names.Waiter.{Waiter}
+use Rattle.lk_names.specs.declared.names.LockName.{LockName}
+use Rattle.lk_names.specs.declared.events.How.{How}
+use Rattle.lk_names.specs.declared.events.RwHow.{RwHow}
+use Rattle.lk_names.specs.declared.events.How.TheVariants.{Sole}
+use Rattle.lk_names.specs.declared.events.Lists.{Lists}
+use Rattle.lk_names.specs.declared.events.What.{What}
+use Rattle.lk_names.specs.declared.events.What.TheVariants.{Take, Arrive, Pass, Leave, RTake, WTake}
 use Rattle.lk_abs.proofs.Clauses.{none-false, clear_from_none, none-over, counts-passed}
 use Rattle.lk_abs.proofs.Table.{true-if, owned_if_clear, front_if_clear}
 use Rattle.lk_abs.proofs.Sameness.{holds-true, is_waiter-true}

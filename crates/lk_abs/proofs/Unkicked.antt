@@ -6,18 +6,18 @@ use Rattle.std.specs.List.{All, slice_get}
 use Rattle.std.proofs.lemmas.Bool.{cases_Bool, or_cases, true≢false, eqb-true, eq-eqb, lt-ltb, ltb-true, ltb-false}
 use Rattle.std.proofs.lemmas.List.Elements.{All-nil, All-cons, All-head, All-tail}
 use Rattle.std.proofs.lemmas.Option.{none-some, same_Some}
-use Rattle.lk_abs.specs.Names.{place_of, lock_at, locks_from}
-use Rattle.lk_abs.specs.History.{LockHistory, no_history, history_of}
-use Rattle.lk_abs.specs.Kicks.{sleeps, owing, kicks_made, is_kicked, IsOwed, KickState, kicks_of}
-use Rattle.lk_abs.specs.Lawful.{FrontIsOwed}
+use Rattle.lk_names.specs.Names.{place_of, lock_at, locks_from}
+use Rattle.lk_names.specs.History.{LockHistory, no_history, history_of}
+use Rattle.lk_names.specs.Kicks.{sleeps, owing, kicks_made, is_kicked, IsOwed, KickState, kicks_of}
+use Rattle.lk_names.specs.Lawful.{FrontIsOwed}
 use Rattle.lk_abs.specs.NoKick.{is_owed, first_if_free, left_by, left_asleep, no_kick, unkicked}
-use Rattle.lk_abs.specs.declared.holder.Holder.{Holder}
-use Rattle.lk_abs.specs.declared.names.Mode.{Mode}
-use Rattle.lk_abs.specs.declared.names.Mode.TheVariants.{Virt, Native, Cna, Pv}
-use Rattle.lk_abs.specs.declared.names.Waiter.{Waiter}
-use Rattle.lk_abs.specs.declared.names.LockName.{LockName}
-use Rattle.lk_abs.specs.declared.events.Event.{Event}
-use Rattle.lk_abs.specs.declared.events.Breach.{Breach}
+use Rattle.lk_names.specs.declared.holder.Holder.{Holder}
+use Rattle.lk_names.specs.declared.names.Mode.{Mode}
+use Rattle.lk_names.specs.declared.names.Mode.TheVariants.{Virt, Native, Cna, Pv}
+use Rattle.lk_names.specs.declared.names.Waiter.{Waiter}
+use Rattle.lk_names.specs.declared.names.LockName.{LockName}
+use Rattle.lk_names.specs.declared.events.Event.{Event}
+use Rattle.lk_names.specs.declared.events.Breach.{Breach}
 use Rattle.lk_abs.proofs.Clauses.{none-false, false-none, or-none, none-or}
 
 -- ---- locks and their numbers

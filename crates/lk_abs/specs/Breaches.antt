@@ -1,23 +1,21 @@
 -- The table of breaches: which clause of the laws an event on a lock breaks first, after what the events before it say of the
 -- lock. A kick that is owed to a sleeper is no matter of one lock, and not in this table.
-use Rattle.std.specs.Prelude.{ℕ, Option, Some, None, Bool, true, false, not, ◌&&◌, ◌||◌, nat_lt, List, [], ◌∷◌, if◌then◌else◌, slice_get}
+use Rattle.std.specs.Prelude.{ℕ, Option, Some, None, Bool, false, not, ◌&&◌, ◌||◌, nat_lt, List, [], ◌∷◌, if◌then◌else◌, slice_get}
 use Rattle.std.proofs.Common.{suc}
 use Rattle.std.specs.List.{list_any}
 use Rattle.std.specs.Option.{option_or}
-use Rattle.lk_abs.specs.Names.{same_waiter}
-use Rattle.lk_abs.specs.History.{LockHistory, is_hold, changed}
-use Rattle.lk_abs.specs.declared.holder.Manner.{Manner}
-use Rattle.lk_abs.specs.declared.holder.Manner.TheVariants.{Spins, Reads, Writes}
-use Rattle.lk_abs.specs.declared.holder.Holder.{Holder}
-use Rattle.lk_abs.specs.Lawful.{Rules, writes, lawful_moves}
-use Rattle.lk_abs.specs.declared.names.Waiter.{Waiter}
-use Rattle.lk_abs.specs.declared.names.LockName.{LockName}
-use Rattle.lk_abs.specs.declared.events.How.{How}
-use Rattle.lk_abs.specs.declared.events.How.TheVariants.{Head, Sole}
-use Rattle.lk_abs.specs.declared.events.What.{What}
-use Rattle.lk_abs.specs.declared.events.What.TheVariants.{Take, Release, Arrive, Pass, Flush, Promote, Leave, RTake, RRelease, WTake, WRelease}
-use Rattle.lk_abs.specs.declared.events.Breach.{Breach}
-use Rattle.lk_abs.specs.declared.events.Breach.TheVariants.{Beside, NotHolder, Twice, WrongHead, WrongMove, WrongNext, OverThreshold}
+use Rattle.lk_names.specs.Names.{same_waiter}
+use Rattle.lk_names.specs.History.{LockHistory, is_hold, is_by_front, changed}
+use Rattle.lk_names.specs.declared.holder.Manner.{Manner}
+use Rattle.lk_names.specs.declared.holder.Manner.TheVariants.{Spins, Reads, Writes}
+use Rattle.lk_names.specs.declared.holder.Holder.{Holder}
+use Rattle.lk_names.specs.Lawful.{Rules, writes, lawful_moves}
+use Rattle.lk_names.specs.declared.names.Waiter.{Waiter}
+use Rattle.lk_names.specs.declared.names.LockName.{LockName}
+use Rattle.lk_names.specs.declared.events.What.{What}
+use Rattle.lk_names.specs.declared.events.What.TheVariants.{Take, Release, Arrive, Pass, Flush, Promote, Leave, RTake, RRelease, WTake, WRelease}
+use Rattle.lk_names.specs.declared.events.Breach.{Breach}
+use Rattle.lk_names.specs.declared.events.Breach.TheVariants.{Beside, NotHolder, Twice, WrongHead, WrongMove, WrongNext, OverThreshold}
 
 -- the breach, where the test says that there is one
 abbrev pub breach_if : Bool → Breach → Option Breach
@@ -43,12 +41,6 @@ is_queued h w = is_among h.main w || is_among h.second w
 abbrev pub is_waiter : Option Waiter → Waiter → Bool
 is_waiter None w = false
 is_waiter (Some u) w = same_waiter u w
-
--- whether a take by this way is one by the head of the queue
-abbrev pub is_by_front : How → Bool
-is_by_front Head = true
-is_by_front Sole = true
-is_by_front how = false
 
 -- the earliest holder, beside which the waiter would take
 abbrev pub beside_first : LockName → List Holder → Waiter → Option Breach

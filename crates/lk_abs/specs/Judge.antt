@@ -1,16 +1,16 @@
 -- What contracts see of a judge, and what it says of the events that it has taken.
 use Rattle.std.specs.Prelude.{◌≡◌, ℕ, ◌+◌, ◌*◌, ◌^◌, ◌<◌, ◌≤◌, Option, Some, None, List, length, slice_get, All}
 use Rattle.std.specs.Option.{option_or}
-use Rattle.lk_abs.specs.Names.{place_of}
-use Rattle.lk_abs.specs.History.{LockHistory, no_history, lock_of, told, history_of}
-use Rattle.lk_abs.specs.Kicks.{kicks_of, kicks_told}
-use Rattle.lk_abs.specs.Lawful.{Rules, IsLawful}
+use Rattle.lk_names.specs.Names.{place_of}
+use Rattle.lk_names.specs.History.{LockHistory, no_history, lock_of, told, history_of}
+use Rattle.lk_names.specs.Kicks.{kicks_of, kicks_told}
+use Rattle.lk_names.specs.Lawful.{Rules, IsLawful}
 use Rattle.lk_abs.specs.Breaches.{first_breach}
 use Rattle.lk_abs.specs.NoKick.{unkicked}
 use Rattle.lk_abs.specs.Remembered.{state_of, IsKept, IsNamed}
-use Rattle.lk_abs.specs.declared.names.LockName.{LockName}
-use Rattle.lk_abs.specs.declared.events.Breach.{Breach}
-use Rattle.lk_abs.specs.declared.events.Event.{Event}
+use Rattle.lk_names.specs.declared.names.LockName.{LockName}
+use Rattle.lk_names.specs.declared.events.Breach.{Breach}
+use Rattle.lk_names.specs.declared.events.Event.{Event}
 use Rattle.lk_abs.specs.declared.kick_record.KickRecord.{KickRecord}
 
 -- what is kept of a lock: what the events so far say of it, and how many waiters its queue has room for

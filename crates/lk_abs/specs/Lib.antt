@@ -1,16 +1,5 @@
-pub mod ListOf
-pub mod ListLends
-pub mod Names
-pub mod History
-pub mod Kicks
-pub mod Lawful
 pub mod Allowed
 pub mod Breaches
-pub mod Lists
 pub mod Judge
 pub mod Remembered
 pub mod NoKick
-pub mod Jobs
-pub mod Journal
-pub mod Workload
-pub mod Outcome

@@ -1,17 +1,17 @@
 -- Which head is left asleep by a free lock, and is owed no kick.
 use Rattle.std.specs.Prelude.{ℕ, Option, Some, None, Bool, not, ◌&&◌, ◌||◌, nat_lt, List, [], ◌∷◌, slice_get}
 use Rattle.std.specs.Option.{option_or}
-use Rattle.lk_abs.specs.Names.{locks_from}
-use Rattle.lk_abs.specs.History.{LockHistory}
-use Rattle.lk_abs.specs.Kicks.{KickState}
+use Rattle.lk_names.specs.Names.{locks_from}
+use Rattle.lk_names.specs.History.{LockHistory}
+use Rattle.lk_names.specs.Kicks.{KickState}
 use Rattle.lk_abs.specs.Breaches.{breach_if}
-use Rattle.lk_abs.specs.declared.holder.Holder.{Holder}
-use Rattle.lk_abs.specs.declared.names.Mode.{Mode}
-use Rattle.lk_abs.specs.declared.names.Mode.TheVariants.{Pv}
-use Rattle.lk_abs.specs.declared.names.Waiter.{Waiter}
-use Rattle.lk_abs.specs.declared.names.LockName.{LockName}
-use Rattle.lk_abs.specs.declared.events.Breach.{Breach}
-use Rattle.lk_abs.specs.declared.events.Breach.TheVariants.{NoKick}
+use Rattle.lk_names.specs.declared.holder.Holder.{Holder}
+use Rattle.lk_names.specs.declared.names.Mode.{Mode}
+use Rattle.lk_names.specs.declared.names.Mode.TheVariants.{Pv}
+use Rattle.lk_names.specs.declared.names.Waiter.{Waiter}
+use Rattle.lk_names.specs.declared.names.LockName.{LockName}
+use Rattle.lk_names.specs.declared.events.Breach.{Breach}
+use Rattle.lk_names.specs.declared.events.Breach.TheVariants.{NoKick}
 
 -- whether the processor is owed a kick
 abbrev pub is_owed : KickState → ℕ → Bool

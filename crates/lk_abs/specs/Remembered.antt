@@ -1,11 +1,11 @@
 -- What a record of halts and kicks, kept in memory, says of the events so far.
 use Rattle.std.specs.Prelude.{◌≡◌, ℕ, ◌+◌, ◌*◌, ◌<◌, ◌≤◌, Some, Bool, false, ◌&&◌, nat_lt, List, length, slice_get, slice_index_or, All}
-use Rattle.lk_abs.specs.Kicks.{KickState, sleeps_after, owes, kicks, kicked_after}
-use Rattle.lk_abs.specs.Lists.{waiter_number}
-use Rattle.lk_abs.specs.declared.names.Waiter.{Waiter}
-use Rattle.lk_abs.specs.declared.events.Event.{Event}
-use Rattle.lk_abs.specs.declared.events.What.{What}
-use Rattle.lk_abs.specs.declared.events.What.TheVariants.{Kick, Release}
+use Rattle.lk_names.specs.Kicks.{KickState, sleeps_after, owes, kicks, kicked_after}
+use Rattle.lk_names.specs.Lists.{waiter_number}
+use Rattle.lk_names.specs.declared.names.Waiter.{Waiter}
+use Rattle.lk_names.specs.declared.events.Event.{Event}
+use Rattle.lk_names.specs.declared.events.What.{What}
+use Rattle.lk_names.specs.declared.events.What.TheVariants.{Kick, Release}
 use Rattle.lk_abs.specs.declared.kick_record.KickRecord.{KickRecord}
 
 -- what is kept, and nothing of waiters and processors of which nothing is kept

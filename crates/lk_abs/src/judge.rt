@@ -1,19 +1,16 @@
 // The judge of histories, one event at a time.
 ghost use Rattle.std.specs.Prelude.{◌≡◌, ◌≢◌, ℕ, ◌<◌, ◌≤◌, ◌*◌, ◌↔◌, [], ◌∷◌, ◌++◌, IfOk, OnOk, OnErr, IsOk, None, length, replicate};
 ghost use Rattle.std.specs.Result.{result_err};
-ghost use Rattle.lk_abs.specs.Names.{lock_at, locks_from};
-ghost use Rattle.lk_abs.specs.History.{no_history};
-ghost use Rattle.lk_abs.specs.Lawful.{IsLawful};
+ghost use Rattle.lk_names.specs.Names.{lock_at, locks_from};
+ghost use Rattle.lk_names.specs.History.{no_history};
+ghost use Rattle.lk_names.specs.Lawful.{IsLawful};
 ghost use Rattle.lk_abs.specs.NoKick.{left_asleep, no_kick, unkicked};
 ghost use Rattle.lk_abs.specs.Remembered.{state_of};
 
-use crate::events::{Breach, Event, Lists};
 use crate::kick_record::KickRecord;
-use crate::list::List;
 use crate::lock_record::LockRecord;
-use crate::memory::Memory;
-use crate::names::{Format, Kind, LockName, Mode, Topology};
 use crate::rulebook::Rulebook;
+use lk_names::{Breach, Event, Format, Kind, List, Lists, LockName, Memory, Mode, Topology};
 use std::alloc::Global;
 use std::marker::Model;
 

@@ -1,13 +1,10 @@
 // What the events so far say of halts and kicks, kept in memory.
 ghost use Rattle.std.specs.Prelude.{◌≡◌, ◌^◌, ◌<◌, ◌≤◌, ◌+◌, ◌*◌, [], IfOk, length, All};
-ghost use Rattle.lk_abs.specs.Kicks.{kicks_of, kicks_told};
+ghost use Rattle.lk_names.specs.Kicks.{kicks_of, kicks_told};
 ghost use Rattle.lk_abs.specs.NoKick.{is_owed, is_left};
 ghost use Rattle.lk_abs.specs.Remembered.{state_of, HasRoom, IsKept, IsNamed, IsRoused, IsToldOn};
 
-use crate::events::{Event, What};
-use crate::list::List;
-use crate::memory::Memory;
-use crate::names::Waiter;
+use lk_names::{Event, List, Memory, Waiter, What};
 use std::alloc::Global;
 
 /// The halts and kicks of the events so far, by waiter and by processor.

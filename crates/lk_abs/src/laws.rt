@@ -1,14 +1,13 @@
 // Laws of lawful histories. The functions do nothing: their contracts are the laws.
 ghost use Rattle.std.specs.Prelude.{◌≡◌, ◌↔◌, [], ◌∷◌, ◌++◌, None, Some, All, List};
-ghost use Rattle.lk_abs.specs.History.{lock_of, history_of};
-ghost use Rattle.lk_abs.specs.Kicks.{kicks_of};
-ghost use Rattle.lk_abs.specs.Lawful.{Rules, FrontIsOwed, IsLawful};
+ghost use Rattle.lk_names.specs.History.{lock_of, history_of};
+ghost use Rattle.lk_names.specs.Kicks.{kicks_of};
+ghost use Rattle.lk_names.specs.Lawful.{Rules, FrontIsOwed, IsLawful};
 ghost use Rattle.lk_abs.specs.Breaches.{first_breach};
 ghost use Rattle.lk_abs.specs.NoKick.{no_kick};
 ghost use Rattle.lk_abs.specs.Judge.{Events};
 
-use crate::events::Event;
-use crate::names::{Format, LockName, Mode, Waiter};
+use lk_names::{Event, Format, LockName, Mode, Waiter};
 
 /// The judge is exact. A lawful history with one more event on a lock is lawful exactly if the
 /// event breaks no clause of the table and, in mode `pv`, leaves no queue head of a free lock

@@ -1,32 +1,13 @@
-//! What every other crate speaks of: names of locks and waiters, events, acts, and the jobs of the
-//! ledger. Its `specs/` say what a history of events tells of each lock, when a history is lawful,
-//! and which outcomes a job file may have.
+//! The judge of histories: one event at a time it tells whether the history is still lawful, and else
+//! which clause of the laws the event breaks.
 #![tactic(auto)]
 
-mod balances;
-mod events;
-mod holder;
-mod job_file;
 mod judge;
 mod kick_record;
 mod laws;
-mod ledger;
-mod limits;
-mod list;
 mod lock_record;
-mod memory;
-mod names;
 mod queues;
 mod rulebook;
 
-pub use balances::apply;
-pub use events::{Act, Breach, Event, How, Lists, RwHow, What};
-pub use holder::{Holder, Manner};
-pub use job_file::JobFile;
 pub use judge::Judge;
 pub use laws::{aside_are_tasks, judge_is_exact};
-pub use ledger::{Entry, Job, Reply, Seen};
-pub use limits::{MAX_ACCOUNTS, MAX_AMOUNT, MAX_JOBS, MAX_SOCKET, MAX_TURNS, MAX_WORKERS};
-pub use list::List;
-pub use memory::Memory;
-pub use names::{Format, Kind, LockName, Mode, Topology, Waiter};

@@ -4,19 +4,15 @@ ghost use Rattle.std.specs.Prelude.{◌≡◌, ◌<◌, ◌≤◌, IfOk, IfSome,
 ghost use Rattle.std.specs.List.{list_any, position};
 ghost use Rattle.std.specs.Result.{result_err};
 ghost use Rattle.std.proofs.Common.{suc};
-ghost use Rattle.lk_abs.specs.History.{no_history, is_hold, without, changed};
+ghost use Rattle.lk_names.specs.History.{no_history, is_hold, without, changed};
 ghost use Rattle.lk_abs.specs.Breaches.{holds, holds_so, is_queued, beside_first, beside, not_holder, twice, wrong_head, wrong_move, wrong_next, moved_over, over_threshold, first_breach};
-ghost use Rattle.lk_abs.specs.Lawful.{writes};
-ghost use Rattle.lk_abs.specs.Lists.{IsOneOf};
+ghost use Rattle.lk_names.specs.Lawful.{writes};
+ghost use Rattle.lk_names.specs.Lists.{IsOneOf};
 ghost use Rattle.lk_abs.specs.NoKick.{free_front};
 
-use crate::events::{Breach, How, Lists, What};
-use crate::holder::{Holder, Manner};
-use crate::list::List;
-use crate::memory::Memory;
-use crate::names::{LockName, Waiter};
 use crate::queues::{first_over, hand_on, rejoin};
 use crate::rulebook::Rulebook;
+use lk_names::{Breach, Holder, How, List, Lists, LockName, Manner, Memory, Waiter, What};
 use std::alloc::Global;
 use std::marker::Model;
 
@@ -32,7 +28,7 @@ impl Model for LockRecord {
 
     ghost Value = { KeptLock };
 
-    ghost use Rattle.lk_abs.specs.Lists.{IsInOrder, IsHeld, history_of_lists};
+    ghost use Rattle.lk_names.specs.Lists.{IsInOrder, IsHeld, history_of_lists};
 
     ghost view = { λ r. record { history = history_of_lists r.holders.items r.lists; room = r.lists.main.room } };
 

@@ -1,12 +1,10 @@
 // The queues of a lock, as they change.
 ghost use Rattle.std.specs.Prelude.{◌≡◌, ◌≤◌, ◌<◌, ◌+◌, length, All, map};
 ghost use Rattle.std.proofs.Common.{suc};
-ghost use Rattle.lk_abs.specs.Lists.{lists_passed, lists_rejoined};
+ghost use Rattle.lk_names.specs.Lists.{lists_passed, lists_rejoined};
 ghost use Rattle.lk_abs.specs.Breaches.{first_over};
 
-use crate::events::{Breach, Lists};
-use crate::list::List;
-use crate::names::{LockName, Waiter};
+use lk_names::{Breach, List, Lists, LockName, Waiter};
 
 /// Counts one more handoff past each waiter of the secondary queue.
 fn count_on(passes: &mut List<u32>)

@@ -1,9 +1,8 @@
 // The rules that a judge goes by.
 ghost use Rattle.std.specs.Prelude.{◌≡◌, ◌≤◌, ◌+◌, length, drop, slice_index_or};
-ghost use Rattle.lk_abs.specs.Lawful.{movable, stays, is_local, is_far, lawful_moves};
+ghost use Rattle.lk_names.specs.Lawful.{movable, stays, is_local, is_far, lawful_moves};
 
-use crate::list::List;
-use crate::names::{Format, Mode, Waiter};
+use lk_names::{Format, List, Mode, Waiter};
 use std::marker::Model;
 
 /// The rules: the format, the lock family, the sockets of the processors, and the threshold.
@@ -16,7 +15,7 @@ pub(crate) struct Rulebook {
 }
 
 impl Model for Rulebook {
-    ghost use Rattle.lk_abs.specs.Lawful.{Rules};
+    ghost use Rattle.lk_names.specs.Lawful.{Rules};
 
     ghost Value = { Rules };
 

@@ -1,10 +1,10 @@
 -- What an auditor shows, with one line more.
 use Rattle.std.proofs.Common.{true, ◌≡◌, ◌++◌, ◌+◌, ◌*◌, ℕ, List, [], ◌∷◌, Option, None, Some, Result, Ok, Err, length, refl, sym, ap, subst, ◌∙◌}
 use Rattle.std.proofs.lemmas.List.{length_push}
-use Rattle.lk_abs.specs.Lawful.{IsLawful}
+use Rattle.lk_names.specs.Lawful.{IsLawful}
 use Rattle.lk_abs.specs.Judge.{JudgeState, breach_of, HasTaken}
-use Rattle.lk_abs.specs.declared.events.Event.{Event}
-use Rattle.lk_abs.specs.declared.events.Breach.{Breach}
+use Rattle.lk_names.specs.declared.events.Event.{Event}
+use Rattle.lk_names.specs.declared.events.Breach.{Breach}
 use Rattle.lk_rows.specs.declared.setup.Setup.{Setup}
 use Rattle.lk_text.specs.Reader.{lines_given, is_ended, GaveLine, MetEnd}
 use Rattle.lk_text.specs.declared.reader.LineReader.{LineReader}

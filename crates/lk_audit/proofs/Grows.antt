@@ -2,8 +2,8 @@
 use Rattle.std.proofs.Common.{Bool, true, false, ◌≡◌, ◌++◌, ◌+◌, ◌&&◌, nat_lt, nat_le, ℕ, List, [], ◌∷◌, Option, None, Some, Result, Ok, Err, length, fold, refl, sym, ap, subst, ◌∙◌, append_assoc, append-nil, if◌then◌else◌}
 use Rattle.std.proofs.lemmas.List.{map-append}
 use Rattle.std.specs.Result.{result_unwrap_or}
-use Rattle.lk_abs.specs.Lawful.{Rules, IsLawful}
-use Rattle.lk_abs.specs.declared.events.Event.{Event}
+use Rattle.lk_names.specs.Lawful.{Rules, IsLawful}
+use Rattle.lk_names.specs.declared.events.Event.{Event}
 use Rattle.lk_abs.proofs.OneMore.{lawful-front}
 use Rattle.lk_rows.specs.Run.{Occurrence, events_of}
 use Rattle.lk_text.specs.Feeds.{line_of}

@@ -2,21 +2,21 @@
 use Rattle.std.proofs.Common.{Bool, true, false, ◌≡◌, ◌<◌, ◌+◌, ◌*◌, ◌^◌, ◌&&◌, ℕ, List, [], ◌∷◌, Option, None, Some, length, nat_lt, refl, sym, ap, subst, ◌∙◌, arith, if◌then◌else◌}
 use Rattle.std.proofs.lemmas.Bool.Decides.{nat_tests}
 use Rattle.std.specs.Option.{option_or}
-use Rattle.lk_abs.specs.Names.{place_of, locks_from}
-use Rattle.lk_abs.specs.History.{LockHistory, history_of, told, lock_of}
-use Rattle.lk_abs.specs.Kicks.{KickState, kicks_of, kicks_told}
-use Rattle.lk_abs.specs.Lawful.{Rules}
+use Rattle.lk_names.specs.Names.{place_of, locks_from}
+use Rattle.lk_names.specs.History.{LockHistory, history_of, told, lock_of}
+use Rattle.lk_names.specs.Kicks.{KickState, kicks_of, kicks_told}
+use Rattle.lk_names.specs.Lawful.{Rules}
 use Rattle.lk_abs.specs.Breaches.{first_breach}
 use Rattle.lk_abs.specs.NoKick.{left_asleep, no_kick, unkicked}
 use Rattle.lk_abs.specs.Remembered.{state_of, IsNamed, IsNamedBy}
 use Rattle.lk_abs.specs.Judge.{JudgeState, IsInRange, IsDeclared, history_at, taken_by, breach_of, HasTaken}
 use Rattle.lk_abs.specs.Judge.{breach_on as judge_breach_on}
-use Rattle.lk_abs.specs.declared.names.Mode.{Mode}
-use Rattle.lk_abs.specs.declared.names.Mode.TheVariants.{Virt, Native, Cna, Pv}
-use Rattle.lk_abs.specs.declared.names.LockName.{LockName}
-use Rattle.lk_abs.specs.declared.events.Event.{Event}
-use Rattle.lk_abs.specs.declared.events.What.{What}
-use Rattle.lk_abs.specs.declared.events.What.TheVariants as what
+use Rattle.lk_names.specs.declared.names.Mode.{Mode}
+use Rattle.lk_names.specs.declared.names.Mode.TheVariants.{Virt, Native, Cna, Pv}
+use Rattle.lk_names.specs.declared.names.LockName.{LockName}
+use Rattle.lk_names.specs.declared.events.Event.{Event}
+use Rattle.lk_names.specs.declared.events.What.{What}
+use Rattle.lk_names.specs.declared.events.What.TheVariants as what
 use Rattle.lk_rows.specs.declared.setup.Setup.{Setup}
 use Rattle.lk_text.proofs.NumberLemmas.{and_split}
 use Rattle.lk_forms.specs.Grammar.{cpus_of}

@@ -3,8 +3,8 @@ use Rattle.std.proofs.Common.{true, ◌≡◌, ◌++◌, ◌+◌, ◌⊎◌, ℕ
 use Rattle.std.proofs.lemmas.List.{append_cancel_left}
 use Rattle.std.proofs.lemmas.List.Sums.{fold-append}
 use Rattle.std.specs.Result.{result_unwrap_or}
-use Rattle.lk_abs.specs.declared.events.Event.{Event}
-use Rattle.lk_abs.specs.declared.events.Breach.{Breach}
+use Rattle.lk_names.specs.declared.events.Event.{Event}
+use Rattle.lk_names.specs.declared.events.Breach.{Breach}
 use Rattle.lk_text.specs.Causes.{Rose}
 use Rattle.lk_forms.specs.Grammar.{has_go}
 use Rattle.lk_forms.specs.declared.answers.LineRefusal.{LineRefusal}

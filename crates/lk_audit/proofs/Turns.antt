@@ -1,7 +1,7 @@
 -- What one line more of a text comes to.
 use Rattle.std.proofs.Common.{true, false, ◌≡◌, ◌≤◌, ◌+◌, ◌++◌, ℕ, List, [], ◌∷◌, Option, None, Some, Ok, Err, length, inl, inr, refl, sym, ap, subst, ◌∙◌, append_assoc, arith}
 use Rattle.std.specs.Io.KnownBytes.{IsAtEnd}
-use Rattle.lk_abs.specs.declared.events.Breach.{Breach}
+use Rattle.lk_names.specs.declared.events.Breach.{Breach}
 use Rattle.lk_text.specs.Feeds.{pieces}
 use Rattle.lk_text.specs.Reader.{unread, lines_given, is_ended, IsFresh, GaveLine, MetEnd, GaveFault}
 use Rattle.lk_text.specs.declared.reader.LineReader.{LineReader}

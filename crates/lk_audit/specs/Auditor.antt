@@ -1,8 +1,8 @@
 -- What an auditor keeps, and what a line comes to.
 use Rattle.std.specs.Prelude.{◌≡◌, ℕ, ◌*◌, ◌≤◌, true, List, OnOk, Option, Result, Ok, Err, length}
 use Rattle.lk_abs.specs.Judge.{taken_by, HasTaken}
-use Rattle.lk_abs.specs.declared.events.Breach.{Breach}
-use Rattle.lk_abs.specs.declared.events.Event.{Event}
+use Rattle.lk_names.specs.declared.events.Breach.{Breach}
+use Rattle.lk_names.specs.declared.events.Event.{Event}
 use Rattle.lk_text.specs.Reader.{GaveLine, lines_given}
 use Rattle.lk_text.specs.declared.reader.LineReader.{LineReader}
 use Rattle.lk_forms.specs.Grammar.{has_go}

@@ -1,14 +1,14 @@
 -- When what an audited text says is lawful, and at which line it first is not.
 use Rattle.std.specs.Prelude.{true, ◌≡◌, ℕ, ◌+◌, ◌*◌, List, [], ◌∷◌, ◌++◌, Option, None, Some, Ok, IfSome, length}
 use Rattle.std.specs.Option.{option_or}
-use Rattle.lk_abs.specs.History.{history_of, told, lock_of}
-use Rattle.lk_abs.specs.Kicks.{kicks_of, kicks_told}
-use Rattle.lk_abs.specs.Lawful.{Rules, IsLawful}
+use Rattle.lk_names.specs.History.{history_of, told, lock_of}
+use Rattle.lk_names.specs.Kicks.{kicks_of, kicks_told}
+use Rattle.lk_names.specs.Lawful.{Rules, IsLawful}
 use Rattle.lk_abs.specs.Breaches.{first_breach}
 use Rattle.lk_abs.specs.NoKick.{unkicked}
-use Rattle.lk_abs.specs.declared.names.LockName.{LockName}
-use Rattle.lk_abs.specs.declared.events.Event.{Event}
-use Rattle.lk_abs.specs.declared.events.Breach.{Breach}
+use Rattle.lk_names.specs.declared.names.LockName.{LockName}
+use Rattle.lk_names.specs.declared.events.Event.{Event}
+use Rattle.lk_names.specs.declared.events.Breach.{Breach}
 use Rattle.lk_rows.specs.Rules.{rules_of}
 use Rattle.lk_rows.specs.Run.{events_of}
 use Rattle.lk_rows.specs.declared.setup.Setup.{Setup}

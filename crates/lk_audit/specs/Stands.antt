@@ -3,7 +3,7 @@
 -- faults.
 use Rattle.std.specs.Prelude.{◌≡◌, ℕ, List, Option, None, Some, Result, Ok, Err, Bool, true, false, length, ⊤}
 use Rattle.std.specs.Io.KnownBytes.{IsAtEnd}
-use Rattle.lk_abs.specs.declared.events.Breach.{Breach}
+use Rattle.lk_names.specs.declared.events.Breach.{Breach}
 use Rattle.lk_text.specs.Causes.{Rose}
 use Rattle.lk_text.specs.declared.reader.LineReader.{LineReader}
 use Rattle.lk_text.specs.declared.reader.LineFault.{LineFault}

@@ -1,9 +1,9 @@
 // What an audit answers where a text is not lawful to its end.
 ghost use Rattle.std.specs.Prelude.{◌≡◌};
 
-use lk_abs::Memory;
 use lk_audit_forms::BreachName;
 use lk_forms::{Fault, Which};
+use lk_names::Memory;
 
 /// Why an audit accepts a text not as lawful.
 #[derive(Clone, Copy, Debug, PartialEq, Eq)]

@@ -5,9 +5,10 @@ ghost use Rattle.lk_rows.specs.Programs.{IsLawfulSetup};
 ghost use Rattle.lk_audit_forms.specs.Grammar.{Said, in_header, ending};
 
 use crate::answers::AuditFault;
-use lk_abs::{Event, Judge, Memory};
+use lk_abs::Judge;
 use lk_audit_forms::{BreachName, CLOSING_LINES, Told, line_told};
 use lk_forms::Fault;
+use lk_names::{Event, Memory};
 use lk_rows::Setup;
 use std::alloc::Global;
 

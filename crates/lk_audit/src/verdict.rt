@@ -1,6 +1,6 @@
 // An audit, from bytes to its one line.
 ghost use Rattle.std.specs.Prelude.{◌≡◌, ◌≤◌, ◌⊎◌, ℕ, List, Some, Option, Err, IsErrAnd, IsOkUnless};
-ghost use Rattle.lk_abs.specs.declared.events.Breach.{Breach};
+ghost use Rattle.lk_names.specs.declared.events.Breach.{Breach};
 ghost use Rattle.lk_text.specs.Causes.{Rose};
 ghost use Rattle.lk_forms.specs.declared.answers.LineRefusal.{LineRefusal};
 ghost use Rattle.lk_stream.specs.Grammar.{Good, Refused, saying};

@@ -4,7 +4,7 @@ use Rattle.std.proofs.lemmas.Bool.Decides.{nat_tests}
 use Rattle.std.proofs.lemmas.List.{take_all}
 use Rattle.std.proofs.lemmas.List.Splits.{slice_split_first}
 use Rattle.std.specs.List.{position, position_or_len, onto_first}
-use Rattle.lk_abs.specs.declared.events.What.{What}
+use Rattle.lk_names.specs.declared.events.What.{What}
 use Rattle.lk_audit_forms.specs.Parts.{parts, if_some, one_word}
 use Rattle.lk_audit_forms.specs.EventLines.{waiter_of_parts, lock_of_parts, no_args, owed_args, owing_args, aside_args, moved_args}
 

@@ -1,8 +1,8 @@
 -- The line of an event is read exactly as it is printed.
 use Rattle.std.proofs.Common.{true, ◌≡◌, ◌++◌, ℕ, List, [], ◌∷◌, Some, refl, sym, ap, ◌∙◌, subst, arith, decimal, codes, append_assoc}
-use Rattle.lk_abs.specs.declared.names.Waiter.{Waiter}
-use Rattle.lk_abs.specs.declared.events.Event.{Event}
-use Rattle.lk_abs.specs.declared.events.What.{What}
+use Rattle.lk_names.specs.declared.names.Waiter.{Waiter}
+use Rattle.lk_names.specs.declared.events.Event.{Event}
+use Rattle.lk_names.specs.declared.events.What.{What}
 use Rattle.lk_forms.specs.Texts.{waiter_text, event_text}
 use Rattle.lk_audit_forms.specs.Parts.{spaced, plain_number}
 use Rattle.lk_audit_forms.specs.EventLines.{waiter_named, what_named, event_of_words, event_told}

@@ -5,14 +5,14 @@ use Rattle.std.proofs.lemmas.Slice.Eq.{bytes_eq-Decides}
 use Rattle.std.proofs.lemmas.List.Folds.{list_all-append}
 use Rattle.std.specs.List.{list_all}
 use Rattle.std.specs.Str.{bytes_eq}
-use Rattle.lk_abs.specs.declared.names.Waiter.{Waiter}
-use Rattle.lk_abs.specs.declared.names.LockName.{LockName}
-use Rattle.lk_abs.specs.declared.events.How.{How}
-use Rattle.lk_abs.specs.declared.events.How.TheVariants as how
-use Rattle.lk_abs.specs.declared.events.RwHow.{RwHow}
-use Rattle.lk_abs.specs.declared.events.RwHow.TheVariants as rw_how
-use Rattle.lk_abs.specs.declared.events.What.{What}
-use Rattle.lk_abs.specs.declared.events.What.TheVariants as what
+use Rattle.lk_names.specs.declared.names.Waiter.{Waiter}
+use Rattle.lk_names.specs.declared.names.LockName.{LockName}
+use Rattle.lk_names.specs.declared.events.How.{How}
+use Rattle.lk_names.specs.declared.events.How.TheVariants as how
+use Rattle.lk_names.specs.declared.events.RwHow.{RwHow}
+use Rattle.lk_names.specs.declared.events.RwHow.TheVariants as rw_how
+use Rattle.lk_names.specs.declared.events.What.{What}
+use Rattle.lk_names.specs.declared.events.What.TheVariants as what
 use Rattle.lk_forms.specs.Texts.{how_text, rw_text, wait_mark, lock_text, waiter_text, owing_text, moved_text, what_text}
 use Rattle.lk_forms.proofs.TextParts.{moved_more}
 use Rattle.lk_audit_forms.specs.Parts.{if_some, one_word, two_words, small_number}

@@ -1,15 +1,15 @@
 -- What the line of an event tells, by its words.
 use Rattle.std.specs.Prelude.{ℕ, ◌==◌, true, false, List, [], ◌∷◌, Option, None, Some, codes, if◌then◌else◌}
 use Rattle.std.specs.Str.{bytes_eq}
-use Rattle.lk_abs.specs.declared.names.Waiter.{Waiter}
-use Rattle.lk_abs.specs.declared.names.LockName.{LockName}
-use Rattle.lk_abs.specs.declared.events.Event.{Event}
-use Rattle.lk_abs.specs.declared.events.How.{How}
-use Rattle.lk_abs.specs.declared.events.How.TheVariants as how
-use Rattle.lk_abs.specs.declared.events.RwHow.{RwHow}
-use Rattle.lk_abs.specs.declared.events.RwHow.TheVariants as rw
-use Rattle.lk_abs.specs.declared.events.What.{What}
-use Rattle.lk_abs.specs.declared.events.What.TheVariants as what
+use Rattle.lk_names.specs.declared.names.Waiter.{Waiter}
+use Rattle.lk_names.specs.declared.names.LockName.{LockName}
+use Rattle.lk_names.specs.declared.events.Event.{Event}
+use Rattle.lk_names.specs.declared.events.How.{How}
+use Rattle.lk_names.specs.declared.events.How.TheVariants as how
+use Rattle.lk_names.specs.declared.events.RwHow.{RwHow}
+use Rattle.lk_names.specs.declared.events.RwHow.TheVariants as rw
+use Rattle.lk_names.specs.declared.events.What.{What}
+use Rattle.lk_names.specs.declared.events.What.TheVariants as what
 use Rattle.lk_audit_forms.specs.Parts.{parts, spaced, if_some, one_word, two_words, plain_number, small_number}
 
 -- how a spinlock was taken

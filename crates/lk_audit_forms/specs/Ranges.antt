@@ -1,13 +1,13 @@
 -- Which events are of a setup, and how the line of one is refused.
 use Rattle.std.specs.Prelude.{ℕ, ◌&&◌, not, nat_lt, nat_le, Bool, true, false, Option, None, Some, Result, Ok, Err, List, length, slice_get, if◌then◌else◌}
-use Rattle.lk_abs.specs.History.{lock_of}
-use Rattle.lk_abs.specs.declared.names.Kind.{Kind}
-use Rattle.lk_abs.specs.declared.names.Kind.TheVariants.{Spin, Rw}
-use Rattle.lk_abs.specs.declared.names.Waiter.{Waiter}
-use Rattle.lk_abs.specs.declared.names.LockName.{LockName}
-use Rattle.lk_abs.specs.declared.events.Event.{Event}
-use Rattle.lk_abs.specs.declared.events.What.{What}
-use Rattle.lk_abs.specs.declared.events.What.TheVariants as what
+use Rattle.lk_names.specs.History.{lock_of}
+use Rattle.lk_names.specs.declared.names.Kind.{Kind}
+use Rattle.lk_names.specs.declared.names.Kind.TheVariants.{Spin, Rw}
+use Rattle.lk_names.specs.declared.names.Waiter.{Waiter}
+use Rattle.lk_names.specs.declared.names.LockName.{LockName}
+use Rattle.lk_names.specs.declared.events.Event.{Event}
+use Rattle.lk_names.specs.declared.events.What.{What}
+use Rattle.lk_names.specs.declared.events.What.TheVariants as what
 use Rattle.lk_rows.specs.declared.setup.Setup.{Setup}
 use Rattle.lk_forms.specs.Grammar.{cpus_of}
 use Rattle.lk_forms.specs.declared.limits.TheConstants.{MAX_ACTS}

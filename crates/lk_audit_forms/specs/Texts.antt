@@ -1,7 +1,7 @@
 -- The one line that an audit writes.
 use Rattle.std.specs.Prelude.{ℕ, List, ◌++◌, codes, decimal}
-use Rattle.lk_abs.specs.declared.events.Breach.{Breach}
-use Rattle.lk_abs.specs.declared.events.Breach.TheVariants as breach
+use Rattle.lk_names.specs.declared.events.Breach.{Breach}
+use Rattle.lk_names.specs.declared.events.Breach.TheVariants as breach
 use Rattle.lk_audit_forms.specs.declared.answers.BreachName.{BreachName}
 use Rattle.lk_audit_forms.specs.declared.answers.BreachName.TheVariants as named
 

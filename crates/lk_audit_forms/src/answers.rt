@@ -2,7 +2,7 @@
 ghost use Rattle.std.specs.Prelude.{◌≡◌};
 ghost use Rattle.lk_audit_forms.specs.Texts.{name_of};
 
-use lk_abs::{Breach, Event};
+use lk_names::{Breach, Event};
 
 /// What an accepted line after `go` tells.
 #[derive(Clone, Copy, Debug, PartialEq, Eq)]

@@ -4,7 +4,7 @@ ghost use Rattle.lk_audit_forms.specs.Parts.{words_left};
 ghost use Rattle.lk_audit_forms.specs.EventLines.{how_named, writer_named, reader_named, waiter_named, lock_named, lock_word, take_args, rtake_args, wtake_args, owed_args, owing_args, release_args, some_moved, aside_args, moved_args, pass_args, kick_args, no_args, what_on, what_named, event_told};
 
 use crate::parts::{cut, next_word, one_word, plain_number, small_number, two_words};
-use lk_abs::{Event, How, LockName, RwHow, Waiter, What};
+use lk_names::{Event, How, LockName, RwHow, Waiter, What};
 
 // How a spinlock was taken.
 fn how_named(word: &[u8]) -> Option<How>

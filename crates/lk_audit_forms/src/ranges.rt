@@ -1,12 +1,12 @@
 // Which events are of a setup, and how the line of one is refused.
 ghost use Rattle.std.specs.Prelude.{◌≡◌, nat_lt, length, slice_get};
-ghost use Rattle.lk_abs.specs.History.{lock_of};
+ghost use Rattle.lk_names.specs.History.{lock_of};
 ghost use Rattle.lk_forms.specs.Grammar.{cpus_of};
 ghost use Rattle.lk_audit_forms.specs.Ranges.{is_next_act, is_waiter_of, is_lock_of, names_of, is_in_setup, is_spinning, is_shared, is_either, fits_lock, read_event};
 
 use crate::event::event_told;
-use lk_abs::{Event, Kind, LockName, Waiter, What};
 use lk_forms::{Fault, MAX_ACTS};
+use lk_names::{Event, Kind, LockName, Waiter, What};
 use lk_rows::Setup;
 
 // The number of contexts of a processor.

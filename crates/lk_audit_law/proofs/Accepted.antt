@@ -1,9 +1,9 @@
 -- The transcript of a trace is accepted.
 use Rattle.std.proofs.Common.{◌≡◌, ◌≤◌, ◌<◌, ◌+◌, ◌-◌, ◌++◌, ◌^◌, true, ℕ, suc, List, [], ◌∷◌, Option, None, Some, length, map, refl, sym, ap, subst, ◌∙◌, append_assoc, append-nil, arith}
 use Rattle.std.proofs.lemmas.List.{length-append}
-use Rattle.lk_abs.specs.Lawful.{IsLawful}
-use Rattle.lk_abs.specs.declared.events.Act.{Act}
-use Rattle.lk_abs.specs.declared.events.Event.{Event}
+use Rattle.lk_names.specs.Lawful.{IsLawful}
+use Rattle.lk_names.specs.declared.events.Act.{Act}
+use Rattle.lk_names.specs.declared.events.Event.{Event}
 use Rattle.lk_rows.specs.Machine.{Machine}
 use Rattle.lk_rows.specs.Programs.{IsLawfulSetup}
 use Rattle.lk_rows.specs.Acts.{next}

@@ -4,7 +4,7 @@ use Rattle.std.proofs.lemmas.Bool.{cases_Bool}
 use Rattle.std.proofs.lemmas.List.{map-append, length-append}
 use Rattle.std.proofs.lemmas.List.Sums.{fold-append}
 use Rattle.std.specs.Result.{result_unwrap_or, result_err}
-use Rattle.lk_abs.specs.declared.events.Act.{Act}
+use Rattle.lk_names.specs.declared.events.Act.{Act}
 use Rattle.lk_rows.specs.declared.setup.Setup.{Setup}
 use Rattle.lk_text.specs.Feeds.{line_of}
 use Rattle.lk_forms.specs.Grammar.{cpus_of, Reading, reading_of, next_reading, nothing_read, scheduled, has_go, has_end, ending, refusal_of_line}

@@ -4,7 +4,7 @@ use Rattle.std.proofs.lemmas.Bool.{ne_eqb, eq-eqb}
 use Rattle.std.proofs.lemmas.Bool.Decides.{nat_tests}
 use Rattle.std.specs.Prelude.{⊤}
 use Rattle.std.specs.List.{onto_first}
-use Rattle.lk_abs.specs.declared.events.Act.{Act}
+use Rattle.lk_names.specs.declared.events.Act.{Act}
 use Rattle.lk_rows.specs.declared.setup.Setup.{Setup}
 use Rattle.lk_text.specs.Feeds.{HasNoFeed, pieces}
 use Rattle.lk_forms.specs.Grammar.{last_rank, has_end, ending}

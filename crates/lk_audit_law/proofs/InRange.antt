@@ -1,7 +1,7 @@
 -- The acts of a trace are in range.
 use Rattle.std.proofs.Common.{Bool, true, false, ◌≡◌, ◌≤◌, ◌<◌, ◌+◌, ◌++◌, map, ℕ, zero, suc, List, [], ◌∷◌, Result, Ok, Err, length, replicate, refl, sym, ap, subst, ◌∙◌, arith, if◌then◌else◌}
 use Rattle.std.proofs.lemmas.List.{length-append, length-replicate}
-use Rattle.lk_abs.specs.declared.events.Act.{Act}
+use Rattle.lk_names.specs.declared.events.Act.{Act}
 use Rattle.lk_rows.specs.Acts.{processor_of}
 use Rattle.lk_rows.specs.declared.setup.Setup.{Setup}
 use Rattle.lk_law.specs.MachineLaws.{AreInRange}

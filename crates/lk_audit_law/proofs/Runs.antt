@@ -1,10 +1,10 @@
 -- A run from rest is read.
 use Rattle.std.proofs.Common.{◌≡◌, ◌≤◌, List, [], ◌∷◌, length, refl, ◌∙◌, subst, arith}
-use Rattle.lk_abs.specs.declared.events.Act.{Act}
+use Rattle.lk_names.specs.declared.events.Act.{Act}
 use Rattle.lk_rows.specs.Machine.{Machine}
 use Rattle.lk_rows.specs.Acts.{next}
 use Rattle.lk_rows.specs.Run.{at_rest, machine_after, events_of}
-use Rattle.lk_abs.specs.Lawful.{IsLawful}
+use Rattle.lk_names.specs.Lawful.{IsLawful}
 use Rattle.lk_rows.specs.Rules.{rules_of}
 use Rattle.lk_law.specs.MachineLaws.{ActKeeps, RestShows, RunKeeps, AreInRange}
 use Rattle.lk_replay.specs.Transcript.{history_of_run}

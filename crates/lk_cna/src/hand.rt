@@ -4,8 +4,8 @@ ghost use Rattle.lk_rows.specs.Machine.{top_frame};
 ghost use Rattle.lk_rows.specs.TopRow.{row};
 ghost use Rattle.lk_cna.specs.Row.{IsCnaReady};
 
-use lk_abs::Event;
 use lk_machine::Machine;
+use lk_names::Event;
 use lk_rows::{Pc, flag_for, named};
 
 /// C7: stores into `runs` of the successor y how many handoffs were made since the secondary queue

@@ -5,8 +5,8 @@ ghost use Rattle.lk_rows.specs.Row.{Second, Y, gone};
 ghost use Rattle.lk_rows.specs.TopRow.{row};
 ghost use Rattle.lk_cna.specs.Row.{IsCnaReady};
 
-use lk_abs::{Event, What};
 use lk_machine::Machine;
+use lk_names::{Event, What};
 use lk_rows::{Frame, Pc, is_last, named};
 
 /// C4: links the waiters that it passed over behind the secondary queue: `next` of the last node t

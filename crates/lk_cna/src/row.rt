@@ -7,8 +7,8 @@ ghost use Rattle.lk_rows.specs.TopRow.{row};
 ghost use Rattle.lk_cna.specs.Row.{IsCnaReady};
 
 use crate::{hand, part, scan};
-use lk_abs::Event;
 use lk_machine::Machine;
+use lk_names::Event;
 use lk_rows::Pc;
 
 /// Makes the row at which the newest frame of a processor stands, one of C1 to C10. Returns the

@@ -7,8 +7,8 @@ ghost use Rattle.lk_rows.specs.rows.Cna.{after_tail};
 ghost use Rattle.lk_rows.specs.Searching.{first_by, first_effect, more_by, more_effect};
 ghost use Rattle.lk_cna.specs.Row.{IsCnaReady, frame_after};
 
-use lk_abs::Event;
 use lk_machine::Machine;
+use lk_names::Event;
 use lk_rows::{First, Frame, More, Node, Pc, Why, named};
 use lk_word::NodeName;
 

@@ -1,6 +1,6 @@
 -- What a ledger comes to, by what `ledger` answers.
 use Rattle.std.proofs.Common.{◌≡◌, ◌⊎◌, ℕ, List, Some, Result, Ok, Err, IfOk, IfErr, IsOkUnless, IsErrAnd, inl, inr, ap, refl}
-use Rattle.lk_abs.specs.Workload.{Workload}
+use Rattle.lk_names.specs.Workload.{Workload}
 use Rattle.lk_text.specs.Causes.{Rose}
 use Rattle.lk_forms.specs.declared.answers.LineRefusal.{LineRefusal}
 use Rattle.lk_stream.specs.Outside.{Outside}

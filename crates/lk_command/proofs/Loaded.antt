@@ -1,6 +1,6 @@
 -- What a replay of the generated trace comes to.
 use Rattle.std.proofs.Common.{◌≡◌, ◌∙◌, ℕ, List, length, ap, ap₂, sym, arith}
-use Rattle.lk_abs.specs.declared.events.Act.{Act}
+use Rattle.lk_names.specs.declared.events.Act.{Act}
 use Rattle.lk_rows.specs.declared.setup.Setup.{Setup}
 use Rattle.lk_text.specs.Causes.{Rose}
 use Rattle.lk_forms.specs.Trace.{trace, Good, setup_in, acts_in}

@@ -1,7 +1,7 @@
 -- What each status of a replay means.
 use Rattle.std.specs.Prelude.{◌≡◌, ◌↔◌, ◌⊎◌, ℕ, List, Option, None, Some, Err}
 use Rattle.std.specs.Io.KnownBytes.{Appends}
-use Rattle.lk_abs.specs.declared.events.Act.{Act}
+use Rattle.lk_names.specs.declared.events.Act.{Act}
 use Rattle.lk_rows.specs.declared.setup.Setup.{Setup}
 use Rattle.lk_text.specs.Causes.{Rose}
 use Rattle.lk_text.specs.Bytes.{AppendsFront}

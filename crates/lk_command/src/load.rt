@@ -8,8 +8,8 @@ ghost use Rattle.lk_command.specs.Means.{Writes, closing_of};
 ghost use Rattle.lk_command.specs.declared.status.Status.{Status};
 
 use crate::status::Status;
-use lk_abs::Memory;
 use lk_gen::generated_text;
+use lk_names::Memory;
 use lk_replay::{ReplayFault, Summary, replay, write_closing};
 use lk_text::{Block, NullSink, Sink, SureSource};
 use std::alloc::Global;

@@ -1,12 +1,12 @@
 // Workers on threads over one ledger.
 ghost use Rattle.std.specs.Prelude.{IfSome};
-ghost use Rattle.lk_abs.specs.Workload.{IsLawful, workload_of};
+ghost use Rattle.lk_names.specs.Workload.{IsLawful, workload_of};
 
 use crate::command::{args_of, call_with};
 use crate::ledger_runs::FAMILIES;
-use lk_abs::{JobFile, Reply};
 use lk_guard::{Gate, OpenGate};
 use lk_job_forms::JobReader;
+use lk_names::{JobFile, Reply};
 use lk_workers::{Outcome, run_jobs};
 use std::alloc::Global;
 use std::process::Abort;

@@ -4,11 +4,11 @@
 use Rattle.std.proofs.Common.{slice_get, get_or, ◌≡◌, ℕ, Option, Some, None, List, ◌≤◌, subst}
 use Rattle.std.specs.Prelude.{All}
 use Rattle.std.proofs.lemmas.Option.{slice_get-get_or}
-use Rattle.lk_abs.specs.History.{LockHistory, history_of}
-use Rattle.lk_abs.specs.Lawful.{Rules, IsLawful, FrontIsOwed}
-use Rattle.lk_abs.specs.declared.names.Mode.TheVariants.{Pv}
-use Rattle.lk_abs.specs.declared.names.LockName.{LockName}
-use Rattle.lk_abs.specs.declared.events.Event.{Event}
+use Rattle.lk_names.specs.History.{LockHistory, history_of}
+use Rattle.lk_names.specs.Lawful.{Rules, IsLawful, FrontIsOwed}
+use Rattle.lk_names.specs.declared.names.Mode.TheVariants.{Pv}
+use Rattle.lk_names.specs.declared.names.LockName.{LockName}
+use Rattle.lk_names.specs.declared.events.Event.{Event}
 use Rattle.lk_abs.proofs.OneMore.{lawful-push, told_here}
 use Rattle.lk_law.specs.Allowed.{MayFollowIfAny}
 use Rattle.lk_law.specs.Kicked.{with_event}

@@ -7,12 +7,12 @@ use Rattle.std.specs.Prelude.{if◌then◌else◌, ◌==◌}
 use Rattle.std.proofs.lemmas.Bool.{cases_Bool, cases_lt}
 use Rattle.std.proofs.lemmas.List.{length-replicate, get_or_past}
 use Rattle.std.proofs.lemmas.Option.{same_Some, none-some, get_or_from_slice_get}
-use Rattle.lk_abs.specs.Names.{same_lock}
-use Rattle.lk_abs.specs.History.{no_history}
-use Rattle.lk_abs.specs.declared.names.Kind.TheVariants.{Spin}
-use Rattle.lk_abs.specs.declared.names.Waiter.{Waiter}
-use Rattle.lk_abs.specs.declared.names.LockName.{LockName}
-use Rattle.lk_abs.specs.declared.holder.Manner.TheVariants.{Spins, Writes}
+use Rattle.lk_names.specs.Names.{same_lock}
+use Rattle.lk_names.specs.History.{no_history}
+use Rattle.lk_names.specs.declared.names.Kind.TheVariants.{Spin}
+use Rattle.lk_names.specs.declared.names.Waiter.{Waiter}
+use Rattle.lk_names.specs.declared.names.LockName.{LockName}
+use Rattle.lk_names.specs.declared.holder.Manner.TheVariants.{Spins, Writes}
 use Rattle.lk_word.specs.declared.spin_word.NodeName.{NodeName}
 use Rattle.lk_word.specs.declared.spin_word.Locked.TheVariants.{Free}
 use Rattle.lk_word.specs.declared.rw_word.RwFields.{RwFields}
@@ -53,7 +53,7 @@ use Rattle.lk_law.specs.RwAgree.{RwAgrees}
 use Rattle.lk_law.specs.SoundWorld.{IsSoundWorld, RwFits, rw_phase_of, rw_phase_on, rw_phases}
 use Rattle.lk_law.specs.SoundWorld.{rw_helds, rw_waits}
 use Rattle.lk_law.proofs.rw.Begins.{begun_fits}
-use Rattle.lk_abs.proofs.ByIndex.{get_past}
+use Rattle.lk_names.proofs.ByIndex.{get_past}
 use Rattle.lk_core.proofs.Kicks.{owed_in, asleep_in, kicks_same}
 use Rattle.lk_core.proofs.Settle.{first_stage, first_outer}
 use Rattle.lk_core.proofs.Walks.{IsOuter, outer_held}

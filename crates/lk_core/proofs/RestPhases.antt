@@ -1,8 +1,8 @@
 -- Phases that have touched nothing have no part in any agreement.
 use Rattle.std.proofs.Common.{◌≡◌, ◌≢◌, ℕ, zero, suc, Some, None, Bool, true, false, arith, ap}
 use Rattle.std.proofs.Common.{◌<◌, ◌+◌, refl, ◌∙◌, length, get_or, replicate}
-use Rattle.lk_abs.specs.declared.names.Mode.{Mode}
-use Rattle.lk_abs.specs.declared.names.Waiter.{Waiter}
+use Rattle.lk_names.specs.declared.names.Mode.{Mode}
+use Rattle.lk_names.specs.declared.names.Waiter.{Waiter}
 use Rattle.lk_word.specs.declared.spin_word.NodeName.{NodeName}
 use Rattle.lk_word.specs.declared.spin_word.Locked.TheVariants.{Free}
 use Rattle.lk_rows.specs.declared.setup.Verb.{Verb}

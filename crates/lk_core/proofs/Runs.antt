@@ -3,12 +3,12 @@ use Rattle.std.proofs.Common.{slice_get, ◌≡◌, ◌≤◌, ℕ, suc, Option,
 use Rattle.std.proofs.Common.{ap, refl, sym, ◌∙◌, subst, length, append_assoc, arith, Bool, true}
 use Rattle.std.proofs.Common.{false}
 use Rattle.std.proofs.lemmas.List.{append-nil}
-use Rattle.lk_abs.specs.History.{LockHistory, no_history, history_of}
-use Rattle.lk_abs.specs.Lawful.{IsLawful}
-use Rattle.lk_abs.specs.declared.names.LockName.{LockName}
-use Rattle.lk_abs.specs.declared.events.Act.{Act}
-use Rattle.lk_abs.specs.declared.events.Event.{Event}
-use Rattle.lk_abs.proofs.Moments.{history_of-push}
+use Rattle.lk_names.specs.History.{LockHistory, no_history, history_of}
+use Rattle.lk_names.specs.Lawful.{IsLawful}
+use Rattle.lk_names.specs.declared.names.LockName.{LockName}
+use Rattle.lk_names.specs.declared.events.Act.{Act}
+use Rattle.lk_names.specs.declared.events.Event.{Event}
+use Rattle.lk_names.proofs.Moments.{history_of-push}
 use Rattle.lk_abs.proofs.OneMore.{lawful-nil}
 use Rattle.lk_rows.specs.declared.setup.Setup.{Setup}
 use Rattle.lk_rows.specs.Machine.{Machine}
@@ -31,8 +31,8 @@ use Rattle.lk_law.specs.World.{World}
 use Rattle.lk_law.specs.SoundWorld.{IsSoundWorld, spin_part, is_rw, is_rw_name}
 use Rattle.lk_law.proofs.common.Puts.{if-false}
 use Rattle.lk_rows.specs.Moves.{rw_name}
-use Rattle.lk_abs.specs.declared.names.Kind.{Kind}
-use Rattle.lk_abs.specs.declared.names.Kind.TheVariants.{Spin, Rw}
+use Rattle.lk_names.specs.declared.names.Kind.{Kind}
+use Rattle.lk_names.specs.declared.names.Kind.TheVariants.{Spin, Rw}
 use Rattle.std.proofs.lemmas.Bool.{cases_Bool}
 
 -- the histories of a list of events, told on, are those of the list with the event

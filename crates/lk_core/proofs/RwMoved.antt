@@ -3,15 +3,15 @@ use Rattle.std.proofs.Common.{◌≡◌, inl, inr, ℕ, Option, Some, None, Bool
 use Rattle.std.proofs.Common.{◌<◌, ◌+◌, arith, ap, refl, sym, ◌∙◌, subst, length, length-set}
 use Rattle.std.specs.Prelude.{if◌then◌else◌, ◌==◌, ◌||◌, slice_index_or}
 use Rattle.std.proofs.lemmas.Bool.{cases_eq, eq-eqb, ne_eqb}
-use Rattle.lk_abs.specs.Names.{same_lock}
-use Rattle.lk_abs.specs.History.{LockHistory}
-use Rattle.lk_abs.specs.declared.holder.Manner.{Manner}
-use Rattle.lk_abs.specs.declared.names.Kind.TheVariants.{Spin}
-use Rattle.lk_abs.specs.declared.names.Mode.{Mode}
-use Rattle.lk_abs.specs.declared.names.Mode.TheVariants.{Virt, Native, Cna, Pv}
-use Rattle.lk_abs.specs.declared.names.Waiter.{Waiter}
-use Rattle.lk_abs.specs.declared.names.LockName.{LockName}
-use Rattle.lk_abs.specs.declared.events.What.TheVariants.{Miss}
+use Rattle.lk_names.specs.Names.{same_lock}
+use Rattle.lk_names.specs.History.{LockHistory}
+use Rattle.lk_names.specs.declared.holder.Manner.{Manner}
+use Rattle.lk_names.specs.declared.names.Kind.TheVariants.{Spin}
+use Rattle.lk_names.specs.declared.names.Mode.{Mode}
+use Rattle.lk_names.specs.declared.names.Mode.TheVariants.{Virt, Native, Cna, Pv}
+use Rattle.lk_names.specs.declared.names.Waiter.{Waiter}
+use Rattle.lk_names.specs.declared.names.LockName.{LockName}
+use Rattle.lk_names.specs.declared.events.What.TheVariants.{Miss}
 use Rattle.lk_word.specs.declared.spin_word.NodeName.{NodeName}
 use Rattle.lk_word.specs.declared.rw_word.RwFields.{RwFields}
 use Rattle.lk_rows.specs.declared.setup.Setup.{Setup}
@@ -53,7 +53,7 @@ use Rattle.lk_core.proofs.Stores.{Stored}
 use Rattle.lk_core.proofs.Walks.{IsOuter, NodesIn, holds_done}
 use Rattle.lk_core.proofs.Moved.{Ready, ready_nodes, goes_shows, done_shows, missed_shows}
 use Rattle.lk_core.proofs.LeadsOut.{done_is, missed_is}
-use Rattle.lk_abs.specs.declared.events.RwHow.TheVariants as how
+use Rattle.lk_names.specs.declared.events.RwHow.TheVariants as how
 
 -- what a store of a reader-writer lock's word does to the world
 

@@ -5,9 +5,9 @@ use Rattle.std.proofs.Common.{get_or, set, take}
 use Rattle.std.specs.Prelude.{if◌then◌else◌}
 use Rattle.std.proofs.lemmas.Bool.{cases_order}
 use Rattle.std.proofs.lemmas.Option.{slice_get_past}
-use Rattle.lk_abs.specs.Names.{same_waiter}
-use Rattle.lk_abs.specs.declared.names.Waiter.{Waiter}
-use Rattle.lk_abs.specs.declared.names.LockName.{LockName}
+use Rattle.lk_names.specs.Names.{same_waiter}
+use Rattle.lk_names.specs.declared.names.Waiter.{Waiter}
+use Rattle.lk_names.specs.declared.names.LockName.{LockName}
 use Rattle.lk_word.specs.declared.spin_word.NodeName.{NodeName}
 use Rattle.lk_word.specs.declared.spin_word.Fields.{Fields}
 use Rattle.lk_rows.specs.declared.parts.Frame.{Frame}
@@ -23,7 +23,7 @@ use Rattle.lk_law.specs.Sound.{world, held_at, held_of}
 use Rattle.lk_law.proofs.common.Cases.{waiter_cases}
 use Rattle.lk_law.proofs.common.Sames.{same_waiter-self}
 use Rattle.lk_law.proofs.common.Puts.{same_waiter-else}
-use Rattle.lk_abs.proofs.ByIndex.{get-append_new}
+use Rattle.lk_names.proofs.ByIndex.{get-append_new}
 use Rattle.lk_core.proofs.Lists.{get-set_same, get-set_other, get-take_below, get-take_end}
 use Rattle.lk_core.proofs.Lists.{get-push_other}
 use Rattle.lk_core.proofs.Access.{cpu_part, frame_changed}

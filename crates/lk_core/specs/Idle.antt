@@ -1,9 +1,9 @@
 -- When an act is idle, and what happens where it is not.
 use Rattle.std.specs.Prelude.{◌≡◌, ◌⊎◌, ◌+◌, Option, Some, None, true, false}
-use Rattle.lk_abs.specs.declared.events.Act.{Act}
-use Rattle.lk_abs.specs.declared.events.Act.TheVariants.{Step, Interrupt, Preempt, Resume, Nudge}
-use Rattle.lk_abs.specs.declared.events.Event.{Event}
-use Rattle.lk_abs.specs.declared.events.What.TheVariants as what
+use Rattle.lk_names.specs.declared.events.Act.{Act}
+use Rattle.lk_names.specs.declared.events.Act.TheVariants.{Step, Interrupt, Preempt, Resume, Nudge}
+use Rattle.lk_names.specs.declared.events.Event.{Event}
+use Rattle.lk_names.specs.declared.events.What.TheVariants as what
 use Rattle.lk_rows.specs.Machine.{Machine, top_frame, depth_at, preempted_at, halted_at}
 use Rattle.lk_rows.specs.Machine.{kicked_at, handlers_at}
 use Rattle.lk_rows.specs.Programs.{handlers_of}

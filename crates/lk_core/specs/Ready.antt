@@ -1,7 +1,7 @@
 -- The machine is ready for the function that makes a row, wherever a step of a sound one makes a
 -- row.
 use Rattle.std.specs.Prelude.{◌≡◌, ◌<◌, ◌-◌, ◌^◌, ℕ, Some, false, length}
-use Rattle.lk_abs.specs.declared.events.Act.TheVariants.{Step}
+use Rattle.lk_names.specs.declared.events.Act.TheVariants.{Step}
 use Rattle.lk_rows.specs.declared.family.Family.{Family}
 use Rattle.lk_rows.specs.declared.family.Family.TheVariants.{Spin, Queue, Cna, Pv, Rw}
 use Rattle.lk_rows.specs.declared.parts.Pc.{Pc}

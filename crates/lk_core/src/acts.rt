@@ -1,8 +1,8 @@
 // One act.
 
 ghost use Rattle.std.specs.Prelude.{◌≡◌, ◌&&◌, not, ◌<◌, ◌+◌, ◌-◌, ◌^◌, ℕ, None, Some, List, length};
-ghost use Rattle.lk_abs.specs.declared.events.Act.TheVariants as act;
-ghost use Rattle.lk_abs.specs.declared.events.Event.{Event as EventValue};
+ghost use Rattle.lk_names.specs.declared.events.Act.TheVariants as act;
+ghost use Rattle.lk_names.specs.declared.events.Event.{Event as EventValue};
 ghost use Rattle.lk_rows.specs.Acts.{next, processor_of, stands_halting, after_halt, woken, awake, step_halted};
 ghost use Rattle.lk_rows.specs.Machine.{HasTop, top_frame, halted_at};
 ghost use Rattle.lk_machine.specs.Ready.{CountsWithin};
@@ -11,9 +11,9 @@ ghost use Rattle.lk_law.specs.MachineLaws.{ShowsLawful};
 ghost use Rattle.lk_law.specs.Kicked.{with_event};
 ghost use Rattle.lk_core.specs.Idle.{IsIdle, Happens};
 
-use lk_abs::{Act, Event, Waiter, What};
 use lk_cna::cna_row;
 use lk_machine::{MAX_FRAMES, Machine};
+use lk_names::{Act, Event, Waiter, What};
 use lk_pv::pv_row;
 use lk_queue::queue_row;
 use lk_rows::{Family, Frame, Pc};

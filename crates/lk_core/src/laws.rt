@@ -1,7 +1,7 @@
 // The laws of machines. The functions do nothing: their contracts are the laws.
 
 ghost use Rattle.std.specs.Prelude.{◌≡◌, ◌+◌, ℕ};
-ghost use Rattle.lk_abs.specs.declared.events.Act.{Act as ActValue};
+ghost use Rattle.lk_names.specs.declared.events.Act.{Act as ActValue};
 ghost use Rattle.lk_rows.specs.Machine.{Machine as MachineValue};
 ghost use Rattle.lk_rows.specs.Acts.{next};
 ghost use Rattle.lk_machine.specs.Ready.{CountsWithin};

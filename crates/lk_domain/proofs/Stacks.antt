@@ -4,9 +4,9 @@ use Rattle.std.proofs.Common.{length, Option, Some, None, Bool, true, false, eqb
 use Rattle.std.proofs.Common.{ne_eqb, refl, sym, ap, ◌∙◌, subst, arith}
 use Rattle.std.proofs.lemmas.Bool.{cases_Bool}
 use Rattle.std.specs.Prelude.{if◌then◌else◌, ◌&&◌}
-use Rattle.lk_abs.specs.Names.{same_lock}
-use Rattle.lk_abs.specs.declared.holder.Manner.{Manner}
-use Rattle.lk_abs.specs.declared.names.LockName.{LockName}
+use Rattle.lk_names.specs.Names.{same_lock}
+use Rattle.lk_names.specs.declared.holder.Manner.{Manner}
+use Rattle.lk_names.specs.declared.names.LockName.{LockName}
 use Rattle.lk_law.proofs.common.Puts.{if-true, if-false, not-true, same_lock-else}
 use Rattle.lk_law.proofs.common.Sames.{same_lock-self, same_lock-true}
 use Rattle.lk_domain.specs.Calls.{Running, Hold, Stacked, frame_in, held_in, holds_in, free_of, moved_to}

@@ -2,15 +2,15 @@
 -- locks that it holds. And what a row makes of this, by the value that it meets.
 use Rattle.std.specs.Prelude.{◌≡◌, ℕ, ◌+◌, ◌<◌, ◌==◌, ◌&&◌, ◌||◌, not, nat_lt, Bool, true, false, List, []}
 use Rattle.std.specs.Prelude.{◌∷◌, ◌++◌, length, Option, Some, None, if◌then◌else◌, is_some}
-use Rattle.lk_abs.specs.Names.{same_lock}
-use Rattle.lk_abs.specs.declared.holder.Manner.{Manner}
-use Rattle.lk_abs.specs.declared.holder.Manner.TheVariants.{Spins, Reads, Writes}
-use Rattle.lk_abs.specs.declared.names.Format.{Format}
-use Rattle.lk_abs.specs.declared.names.Format.TheVariants.{One, Two}
-use Rattle.lk_abs.specs.declared.names.Kind.{Kind}
-use Rattle.lk_abs.specs.declared.names.Mode.{Mode}
-use Rattle.lk_abs.specs.declared.names.LockName.{LockName}
-use Rattle.lk_abs.specs.declared.events.What.TheVariants.{RTake, RRelease, WTake, WRelease}
+use Rattle.lk_names.specs.Names.{same_lock}
+use Rattle.lk_names.specs.declared.holder.Manner.{Manner}
+use Rattle.lk_names.specs.declared.holder.Manner.TheVariants.{Spins, Reads, Writes}
+use Rattle.lk_names.specs.declared.names.Format.{Format}
+use Rattle.lk_names.specs.declared.names.Format.TheVariants.{One, Two}
+use Rattle.lk_names.specs.declared.names.Kind.{Kind}
+use Rattle.lk_names.specs.declared.names.Mode.{Mode}
+use Rattle.lk_names.specs.declared.names.LockName.{LockName}
+use Rattle.lk_names.specs.declared.events.What.TheVariants.{RTake, RRelease, WTake, WRelease}
 use Rattle.lk_word.specs.declared.spin_word.NodeName.{NodeName}
 use Rattle.lk_rows.specs.declared.parts.Frame.{Frame}
 use Rattle.lk_rows.specs.declared.parts.Pc.{Pc}
@@ -22,7 +22,7 @@ use Rattle.lk_rows.specs.declared.setup.Verb.TheVariants.{RUnlock, Write, TryWri
 use Rattle.lk_rows.specs.Machine.{rest_frame}
 use Rattle.lk_rows.specs.Moves.{started}
 use Rattle.lk_rows.specs.Programs.{kind_of, is_release as is_unlocking}
-use Rattle.lk_abs.specs.Lawful.{same_socket}
+use Rattle.lk_names.specs.Lawful.{same_socket}
 use Rattle.lk_rows.specs.rows.Cna.{Sight}
 use Rattle.lk_rows.specs.Row.{Lead, Granted, Freed, Leaves, Yields, Tell, Says}
 use Rattle.lk_rows.specs.TopRow.{Target, RwWord, Halted, target}

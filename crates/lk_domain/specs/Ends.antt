@@ -1,8 +1,8 @@
 -- What is left of a domain at its end.
 use Rattle.std.specs.Prelude.{◌≡◌, ℕ, ◌<◌, ◌≤◌, ◌⊎◌, List, [], ◌∷◌, length, None, Bool, true, false, slice_index_or}
-use Rattle.lk_abs.specs.declared.ledger.Entry.{Entry}
+use Rattle.lk_names.specs.declared.ledger.Entry.{Entry}
 use Rattle.lk_domain.specs.Places.{places}
-use Rattle.lk_abs.specs.Journal.{Replays}
+use Rattle.lk_names.specs.Journal.{Replays}
 use Rattle.lk_domain.specs.Keeps.{IsPast, ArePast}
 use Rattle.lk_domain.specs.Ledgers.{Ledger, Past}
 use Rattle.lk_domain.specs.Plans.{cpus_of}

@@ -6,12 +6,12 @@ use Rattle.std.specs.List.{sum}
 use mathlib.Core.Option.{none, some}
 use lib.ListN.{get_elem?}
 use Rattle.atomic_table.specs.Table.{State}
-use Rattle.lk_abs.specs.declared.ledger.Entry.{Entry}
-use Rattle.lk_abs.specs.declared.names.LockName.{LockName}
+use Rattle.lk_names.specs.declared.ledger.Entry.{Entry}
+use Rattle.lk_names.specs.declared.names.LockName.{LockName}
 use Rattle.lk_domain.specs.Calls.{Hold, Calls, lock_name}
-use Rattle.lk_abs.specs.Names.{same_lock}
+use Rattle.lk_names.specs.Names.{same_lock}
 use Rattle.lk_domain.specs.Places.{places}
-use Rattle.lk_abs.specs.Journal.{balances_after, Replays}
+use Rattle.lk_names.specs.Journal.{balances_after, Replays}
 use Rattle.lk_domain.specs.Ledgers.{Look, Out, Past, no_ledger, is_first}
 use Rattle.lk_domain.specs.Plans.{accounts_of, room_of}
 use Rattle.lk_domain.specs.Views.{total}

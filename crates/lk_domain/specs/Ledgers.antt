@@ -1,10 +1,10 @@
 -- What a seat knows of the ledger: its share, its own entries, and its looks.
 use Rattle.std.specs.Prelude.{ℕ, ◌+◌, ◌-◌, ◌==◌, ◌&&◌, not, List, [], ◌∷◌, ◌++◌, length, Option}
 use Rattle.std.specs.Prelude.{Some, None, Bool, slice_set, if◌then◌else◌}
-use Rattle.lk_abs.specs.declared.holder.Manner.{Manner}
-use Rattle.lk_abs.specs.declared.holder.Manner.TheVariants.{Spins}
-use Rattle.lk_abs.specs.declared.ledger.Entry.{Entry}
-use Rattle.lk_abs.specs.declared.names.LockName.{LockName}
+use Rattle.lk_names.specs.declared.holder.Manner.{Manner}
+use Rattle.lk_names.specs.declared.holder.Manner.TheVariants.{Spins}
+use Rattle.lk_names.specs.declared.ledger.Entry.{Entry}
+use Rattle.lk_names.specs.declared.names.LockName.{LockName}
 use Rattle.lk_domain.specs.Calls.{Mark, Grip, Unchanged, Takes, Frees}
 use Rattle.lk_domain.specs.Places.{places_from}
 

@@ -1,6 +1,6 @@
 -- The entries of one processor in a journal, with their places.
 use Rattle.std.specs.Prelude.{◌≡◌, ℕ, ◌+◌, ◌==◌, List, [], ◌∷◌, if◌then◌else◌}
-use Rattle.lk_abs.specs.declared.ledger.Entry.{Entry}
+use Rattle.lk_names.specs.declared.ledger.Entry.{Entry}
 
 -- the entries of a worker with their places, counted from n
 abbrev pub places_from : ℕ → ℕ → List Entry → List (ℕ × Entry)

@@ -1,11 +1,11 @@
 -- What is read of a plan, and when a domain may be made of it.
 use Rattle.std.specs.Prelude.{◌≡◌, ◌<◌, ◌≤◌, ℕ, false, true, length, slice_index, slice_index_or}
 use Rattle.std.specs.Prelude.{if◌then◌else◌}
-use Rattle.lk_abs.specs.declared.names.Mode.{Mode}
+use Rattle.lk_names.specs.declared.names.Mode.{Mode}
 use Rattle.std.specs.List.{sum}
-use Rattle.lk_abs.specs.Jobs.{full}
-use Rattle.lk_abs.specs.declared.names.Kind.{Kind}
-use Rattle.lk_abs.specs.declared.names.Kind.TheVariants.{Spin}
+use Rattle.lk_names.specs.Jobs.{full}
+use Rattle.lk_names.specs.declared.names.Kind.{Kind}
+use Rattle.lk_names.specs.declared.names.Kind.TheVariants.{Spin}
 use Rattle.lk_word.specs.declared.spin_word.Layout.{Layout}
 use Rattle.lk_rows.specs.Layouts.{layout_of}
 use Rattle.lk_law.specs.Agree.{halts}

@@ -2,9 +2,9 @@
 use Rattle.std.specs.Prelude.{◌≡◌, ◌≢◌, ℕ, ◌+◌, ◌<◌, ◌≤◌, Bool, true, List, [], ◌∷◌, ◌++◌, length}
 use Rattle.std.specs.Prelude.{Option, Some, None, IfSome, drop, slice_index}
 use Rattle.atomic_table.specs.Table.{Me, Step}
-use Rattle.lk_abs.specs.declared.ledger.Entry.{Entry}
-use Rattle.lk_abs.specs.declared.names.LockName.{LockName}
-use Rattle.lk_abs.specs.declared.names.Mode.{Mode}
+use Rattle.lk_names.specs.declared.ledger.Entry.{Entry}
+use Rattle.lk_names.specs.declared.names.LockName.{LockName}
+use Rattle.lk_names.specs.declared.names.Mode.{Mode}
 use Rattle.lk_word.specs.declared.spin_word.NodeName.{NodeName}
 use Rattle.lk_word.specs.declared.spin_word.Fields.{Fields}
 use Rattle.lk_word.specs.SpinWord.{packed, IsPackable}
@@ -17,7 +17,7 @@ use Rattle.lk_law.specs.Premises.{IsThen}
 use Rattle.lk_domain.specs.Calls.{Running, Calls, mark, read_at, grip_of, course, row_of, acting, StandsOn}
 use Rattle.lk_domain.specs.Calls.{Begins, lock_name, no_calls, Terms, terms_of, sight_of}
 use Rattle.lk_domain.specs.Places.{places}
-use Rattle.lk_abs.specs.Journal.{Replays}
+use Rattle.lk_names.specs.Journal.{Replays}
 use Rattle.lk_domain.specs.Keeps.{Slot, IsOpen, balance}
 use Rattle.lk_domain.specs.Ledgers.{Ledger, Out, turned, loaded, sighted, taken_out, stored}
 use Rattle.lk_domain.specs.Ledgers.{brought, with_share}

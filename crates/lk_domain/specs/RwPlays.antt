@@ -1,7 +1,7 @@
 -- What each step of a seat on the word of a reader-writer lock asks and tells.
 use Rattle.std.specs.Prelude.{◌≡◌, ◌≤◌, ◌==◌, ℕ, Bool, false, None, length}
 use Rattle.atomic_table.specs.Table.{Me, Step}
-use Rattle.lk_abs.specs.declared.names.LockName.{LockName}
+use Rattle.lk_names.specs.declared.names.LockName.{LockName}
 use Rattle.lk_word.specs.declared.rw_word.RwFields.{RwFields}
 use Rattle.lk_word.specs.RwWord.{packed_rw, IsPackableRw}
 use Rattle.lk_rows.specs.declared.parts.Pc.{Pc}

@@ -2,11 +2,11 @@
 use Rattle.std.specs.Prelude.{◌≡◌, ℕ, ◌+◌, ◌<◌, ◌≤◌, List, [], ◌++◌, Some, length, slice_index}
 use Rattle.std.specs.Prelude.{slice_index_or, false}
 use Rattle.lk_law.specs.Agree.{halts}
-use Rattle.lk_abs.specs.declared.ledger.Entry.{Entry}
+use Rattle.lk_names.specs.declared.ledger.Entry.{Entry}
 use Rattle.lk_rows.specs.declared.setup.Verb.{Verb}
 use Rattle.lk_domain.specs.Calls.{Calls, no_calls}
 use Rattle.lk_domain.specs.Places.{AllOf}
-use Rattle.lk_abs.specs.Journal.{Replays}
+use Rattle.lk_names.specs.Journal.{Replays}
 use Rattle.lk_domain.specs.Keeps.{balance}
 use Rattle.lk_domain.specs.Ledgers.{Ledger, Out, with_share, taken_out}
 use Rattle.lk_domain.specs.Ledgers.{brought}

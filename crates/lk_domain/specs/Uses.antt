@@ -1,7 +1,7 @@
 -- Which rows use the word of a spinlock or a wait lock in which way, by a call that goes on, in each lock
 -- family.
 use Rattle.std.specs.Prelude.{◌≡◌, Bool, true, false}
-use Rattle.lk_abs.specs.declared.names.LockName.{LockName}
+use Rattle.lk_names.specs.declared.names.LockName.{LockName}
 use Rattle.lk_word.specs.declared.spin_word.NodeName.{NodeName}
 use Rattle.lk_rows.specs.declared.parts.Pc.{Pc}
 use Rattle.lk_rows.specs.declared.parts.Pc.TheVariants.{P1, P2, P4, G9, H1, E3, E5, E7, E8, E11, K2, U4}

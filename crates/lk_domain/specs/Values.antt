@@ -10,10 +10,10 @@ use Rattle.std.specs.Prelude.{None, length, slice_get, slice_index_or, if◌then
 use Rattle.std.specs.declared.snapshot.Snapshot.{Snapshot}
 use Rattle.atomic_table.specs.Seated.{TableId}
 use Rattle.atomic_table.specs.declared.badge.Badge.{Badge}
-use Rattle.lk_abs.specs.ListOf.{ListOf}
-use Rattle.lk_abs.specs.declared.holder.Manner.{Manner}
-use Rattle.lk_abs.specs.declared.holder.Manner.TheVariants.{Spins, Reads, Writes}
-use Rattle.lk_abs.specs.Names.{same_lock}
+use Rattle.lk_names.specs.ListOf.{ListOf}
+use Rattle.lk_names.specs.declared.holder.Manner.{Manner}
+use Rattle.lk_names.specs.declared.holder.Manner.TheVariants.{Spins, Reads, Writes}
+use Rattle.lk_names.specs.Names.{same_lock}
 use Rattle.lk_cell.specs.Latched.{IsKey}
 use Rattle.lk_values.specs.Guarded.{Among}
 use Rattle.lk_domain.specs.Calls.{Hold, hold_in, lock_name}

@@ -1,8 +1,8 @@
 -- What a seat knows: who it is, its processor's locks, and the ledger.
 use Rattle.std.specs.Prelude.{◌≡◌, ℕ, ◌+◌, ◌==◌, List, [], ◌∷◌, ◌++◌, map, Option, Some, None}
 use Rattle.std.specs.Prelude.{nat_lt, if◌then◌else◌}
-use Rattle.lk_abs.specs.declared.names.Format.TheVariants.{One}
-use Rattle.lk_abs.specs.declared.names.Mode.TheVariants.{Virt}
+use Rattle.lk_names.specs.declared.names.Format.TheVariants.{One}
+use Rattle.lk_names.specs.declared.names.Mode.TheVariants.{Virt}
 use Rattle.lk_domain.specs.Calls.{Calls}
 use Rattle.lk_domain.specs.Ledgers.{Ledger, Past}
 use Rattle.lk_domain.specs.Who.{Who}

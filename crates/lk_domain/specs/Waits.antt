@@ -1,6 +1,6 @@
 -- What contracts of the calls say of a processor and its domain.
 use Rattle.std.specs.Prelude.{◌≡◌, ℕ, ◌+◌, ◌<◌, false, length}
-use Rattle.lk_abs.specs.declared.holder.Manner.{Manner}
+use Rattle.lk_names.specs.declared.holder.Manner.{Manner}
 use Rattle.lk_rows.specs.declared.parts.Pc.{Pc}
 use Rattle.lk_rows.specs.declared.setup.Verb.{Verb}
 use Rattle.lk_domain.specs.Calls.{terms_of, Calls, Takes, Frees, holds_in, waits_in, lock_name}

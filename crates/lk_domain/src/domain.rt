@@ -10,7 +10,7 @@ use crate::rule::Order;
 use crate::slot::Slot;
 use crate::view::View;
 use atomic_table::Table;
-use lk_abs::{Format, Kind, Mode};
+use lk_names::{Format, Kind, Mode};
 use lk_word::Layout;
 use std::alloc::Global;
 

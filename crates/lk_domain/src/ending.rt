@@ -1,7 +1,7 @@
 // The end of a domain.
 ghost use Rattle.std.specs.Prelude.{◌≡◌, ◌<◌, [], None, Err, IfOk, length};
 ghost use Rattle.lk_domain.specs.Ends.{AllRest, HasFrom, IsFinal};
-ghost use Rattle.lk_abs.specs.Journal.{balances_after};
+ghost use Rattle.lk_names.specs.Journal.{balances_after};
 ghost use Rattle.lk_domain.specs.Plans.{cpus_of, kind_at};
 ghost use Rattle.lk_domain.specs.Seated.{IsSeatOf};
 ghost use Rattle.lk_domain.specs.Values.{AreLaid};
@@ -10,8 +10,8 @@ ghost use Rattle.lk_domain.specs.Views.{all_past};
 use crate::cpu::{Cpu, Right};
 use crate::domain::{Domain, LockId};
 use crate::ledger::steps;
-use lk_abs::{Entry, Kind, List, Mode};
 use lk_cell::Key;
+use lk_names::{Entry, Kind, List, Mode};
 use std::alloc::Global;
 use std::snapshot::Snapshot;
 

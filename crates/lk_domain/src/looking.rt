@@ -4,7 +4,7 @@ ghost use Rattle.std.specs.Prelude.{◌<◌};
 ghost use Rattle.lk_domain.specs.Plans.{locks_of};
 
 use crate::domain::{Domain, LockId};
-use lk_abs::Kind;
+use lk_names::Kind;
 use lk_word::{PENDING, READER, low_byte};
 
 impl Domain {

@@ -21,8 +21,8 @@ use crate::plan::{MOST_CPUS, Plan};
 use crate::rule::{Deal, Draw};
 use crate::slot::{Slot, Stowed};
 use atomic_table::{Refused, Table};
-use lk_abs::{List, Memory, Mode, Topology};
 use lk_cell::Key;
+use lk_names::{List, Memory, Mode, Topology};
 use std::alloc::{AllocError, Global};
 use std::snapshot::Snapshot;
 

@@ -7,7 +7,7 @@ ghost use Rattle.lk_domain.specs.Marked.{IsNoted, first_standing, upto, with_mar
 ghost use Rattle.lk_domain.specs.declared.notes.TheConstants.{NEAR};
 ghost use Rattle.lk_domain.specs.declared.plan.TheConstants.{MOST_LOCKS};
 
-use lk_abs::{List, Memory};
+use lk_names::{List, Memory};
 use std::alloc::Global;
 
 // The bytes of a line of the cache.

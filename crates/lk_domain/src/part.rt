@@ -2,7 +2,7 @@
 ghost use Rattle.std.specs.Prelude.{◌≡◌, ◌<◌};
 ghost use Rattle.lk_domain.specs.Words.{part_index, is_last};
 
-use lk_abs::Mode;
+use lk_names::Mode;
 use lk_word::NodeName;
 
 /// A word of a queue node. A call resets the words of its node in this order.

@@ -8,7 +8,7 @@ ghost use Rattle.lk_word.specs.SpinWord.{index_unit, tail_number};
 
 use crate::part::{Link, Part};
 use crate::plan::{MOST_CPUS, MOST_LOCKS, Plan};
-use lk_abs::{Format, LockName};
+use lk_names::{Format, LockName};
 use lk_rows::Flag;
 use lk_word::{Layout, MARK, NodeName};
 

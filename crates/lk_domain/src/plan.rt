@@ -1,7 +1,7 @@
 // What a domain is made of.
 
-use lk_abs::{Format, Kind, List, Mode, Topology};
 use lk_cell::Key;
+use lk_names::{Format, Kind, List, Mode, Topology};
 use std::snapshot::Snapshot;
 
 /// The most processors of a domain.

@@ -6,9 +6,9 @@ use Rattle.std.specs.Prelude.{◌&&◌}
 use mathlib.Core.Option.{some, some-injective, some-ne-none}
 use lib.ListN.{get_elem?}
 use Rattle.atomic_table.specs.Table.{State}
-use Rattle.lk_abs.specs.Names.{same_lock}
-use Rattle.lk_abs.specs.declared.holder.Manner.{Manner}
-use Rattle.lk_abs.specs.declared.names.LockName.{LockName}
+use Rattle.lk_names.specs.Names.{same_lock}
+use Rattle.lk_names.specs.declared.holder.Manner.{Manner}
+use Rattle.lk_names.specs.declared.names.LockName.{LockName}
 use Rattle.lk_law.proofs.common.Puts.{if-true, if-false}
 use Rattle.lk_law.proofs.common.Sames.{same_lock-self}
 use Rattle.lk_domain.specs.Calls.{Hold, held_in}

@@ -5,7 +5,7 @@ ghost use Rattle.lk_reach.specs.Told.{IsGraph};
 use crate::Answer;
 use crate::asked::{Asked, Goal};
 use crate::lines::Lines;
-use lk_abs::{Act, Memory};
+use lk_names::{Act, Memory};
 use lk_reach::{Deed, Graph, Sought};
 use std::alloc::Global;
 

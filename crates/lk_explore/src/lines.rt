@@ -1,6 +1,6 @@
 // Lines that are put together before they are written.
 
-use lk_abs::Memory;
+use lk_names::Memory;
 use lk_rows::Pc;
 use lk_stream::ReplayFault;
 use lk_text::{Sink, put};

@@ -5,7 +5,7 @@
 #![tactic(auto)]
 
 ghost use Rattle.std.specs.Prelude.{◌≡◌, ◌<◌, ◌≤◌, ℕ, List, IfOk, length};
-ghost use Rattle.lk_abs.specs.declared.events.Act.{Act as ActValue};
+ghost use Rattle.lk_names.specs.declared.events.Act.{Act as ActValue};
 ghost use Rattle.lk_rows.specs.Programs.{IsLawfulSetup};
 ghost use Rattle.lk_reach.specs.Copies.{tight_setup};
 ghost use Rattle.lk_reach.specs.Reach.{AreMoves, state_after};
@@ -25,7 +25,7 @@ mod watcher;
 use asked::{Asked, Goal, asked_by};
 use goal::add_goal;
 use lines::Lines;
-use lk_abs::Memory;
+use lk_names::Memory;
 use lk_reach::{Graph, Helpers, MAX_CPUS, explore};
 use lk_rows::Setup;
 use lk_stream::{ReplayFault, exit};

@@ -7,7 +7,7 @@ use crate::asked::Asked;
 use crate::kinds::kind_name;
 use crate::lines::Lines;
 use crate::rows::{all_rows, is_of};
-use lk_abs::{Memory, Mode};
+use lk_names::{Memory, Mode};
 use lk_reach::{Graph, KINDS};
 use lk_rows::Pc;
 use std::alloc::Global;

@@ -9,9 +9,9 @@ ghost use Rattle.lk_reach.specs.Copies.{tight_setup};
 ghost use Rattle.lk_reach.specs.Explored.{IsStart};
 ghost use Rattle.lk_reach.specs.Reach.{cpus_of};
 
-use lk_abs::{Act, Kind, List, Memory};
 use lk_forms::{Fault, HeaderReader, LineRefusal, Sched, schedule_line};
 use lk_machine::Machine;
+use lk_names::{Act, Kind, List, Memory};
 use lk_reach::{Extras, Peers, Plan, copy_of};
 use lk_replay::read_header;
 use lk_rows::Setup;

@@ -2,7 +2,7 @@
 
 use crate::lines::Lines;
 use crate::overview::Locks;
-use lk_abs::{Memory, Mode};
+use lk_names::{Memory, Mode};
 use lk_rows::{Family, Pc};
 use std::alloc::Global;
 

@@ -1,8 +1,8 @@
 -- When fewer states are enough: one that is kept stands for others, which differ from it only in
 -- the numbers of processors that are alike and in what nobody reads.
 use Rattle.std.specs.Prelude.{◌≡◌, Bool, true, List, Some}
-use Rattle.lk_abs.specs.declared.events.Act.{Act}
-use Rattle.lk_abs.specs.declared.events.Event.{Event}
+use Rattle.lk_names.specs.declared.events.Act.{Act}
+use Rattle.lk_names.specs.declared.events.Event.{Event}
 use Rattle.lk_rows.specs.declared.setup.Setup.{Setup}
 use Rattle.lk_rows.specs.declared.parts.Pc.{Pc}
 use Rattle.lk_rows.specs.Machine.{Machine}

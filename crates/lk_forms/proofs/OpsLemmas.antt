@@ -1,6 +1,6 @@
 -- The operations of a program, read one by one.
 use Rattle.std.proofs.Common.{◌≡◌, ℕ, List, [], ◌∷◌, ◌++◌, Ok, refl}
-use Rattle.lk_abs.specs.declared.names.Kind.{Kind}
+use Rattle.lk_names.specs.declared.names.Kind.{Kind}
 use Rattle.lk_rows.specs.declared.setup.Op.{Op}
 use Rattle.lk_forms.specs.Words.{HasFirst}
 use Rattle.lk_forms.specs.Operations.{op_of, ops_from}

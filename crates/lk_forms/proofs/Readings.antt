@@ -1,7 +1,7 @@
 -- What an accepted line makes of what is read.
 use Rattle.std.proofs.Common.{◌≡◌, ℕ, Bool, true, false, List, [], ◌∷◌, Option, None, Some, Result, Ok, Err, length, fold, refl, subst, nat_le, if◌then◌else◌}
 use Rattle.std.specs.Result.{result_unwrap_or}
-use Rattle.lk_abs.specs.declared.names.Format.{Format}
+use Rattle.lk_names.specs.declared.names.Format.{Format}
 use Rattle.lk_rows.specs.declared.setup.Setup.{Setup}
 use Rattle.lk_forms.specs.Words.{words, is_text, is_comment}
 use Rattle.lk_forms.specs.Keywords.{keyword_of, rank_of, fault_of_place}

@@ -3,7 +3,7 @@ use Rattle.std.proofs.Common.{◌≡◌, ◌≢◌, ◌≤◌, ◌<◌, ◌+◌,
 use Rattle.std.proofs.lemmas.Bool.Decides.{nat_tests}
 use Rattle.std.proofs.lemmas.List.{length-take-le}
 use lib.Seq.{take-append_seam, drop-append_seam, drop-append-add}
-use Rattle.lk_abs.specs.declared.events.Act.TheVariants as act
+use Rattle.lk_names.specs.declared.events.Act.TheVariants as act
 use Rattle.lk_text.proofs.NumberLemmas.{and_split}
 use Rattle.lk_text.specs.Feeds.{HasNoFeed, FeedAt}
 use Rattle.lk_forms.specs.Words.{is_allowed, is_text, words}

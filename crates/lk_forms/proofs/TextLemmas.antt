@@ -2,9 +2,9 @@
 use Rattle.std.proofs.Common.{◌≡◌, ◌<◌, ◌^◌, ℕ, zero, suc, true, List, ◌++◌, refl, sym, ap, ◌∙◌, append_assoc, arith, codes, decimal, if◌then◌else◌}
 use Rattle.std.specs.List.{list_all}
 use Rattle.std.specs.Str.{bytes_eq}
-use Rattle.lk_abs.specs.declared.names.Waiter.{Waiter}
-use Rattle.lk_abs.specs.declared.events.Event.{Event}
-use Rattle.lk_abs.specs.declared.events.What.{What}
+use Rattle.lk_names.specs.declared.names.Waiter.{Waiter}
+use Rattle.lk_names.specs.declared.events.Event.{Event}
+use Rattle.lk_names.specs.declared.events.What.{What}
 use Rattle.lk_rows.specs.declared.parts.Counts.{Counts}
 use Rattle.lk_forms.specs.Texts.{IsSmall, waiter_text, what_text, event_text, end_text, count_name, count_at, count_text}
 use Rattle.lk_forms.proofs.TextParts.{is_letter, number_same, words_same, space_apart, waiter_same}

@@ -7,7 +7,7 @@ use Rattle.std.specs.Prelude.{slice_index_or}
 use Rattle.std.specs.List.{flat_map, list_all}
 use Rattle.lk_text.proofs.NumberLemmas.{and_split}
 use Rattle.std.specs.Str.Parse.{AllDigits}
-use Rattle.lk_abs.specs.declared.events.Event.{Event}
+use Rattle.lk_names.specs.declared.events.Event.{Event}
 use Rattle.lk_rows.specs.declared.parts.Counts.{Counts}
 use Rattle.lk_rows.specs.Run.{Occurrence}
 use Rattle.lk_forms.specs.Texts.{event_text, count_at, count_text, lines, closing}

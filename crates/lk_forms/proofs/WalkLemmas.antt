@@ -4,7 +4,7 @@ use Rattle.std.proofs.lemmas.Bool.{cases_lt}
 use Rattle.std.proofs.lemmas.Bool.Decides.{nat_tests}
 use Rattle.lk_text.proofs.NumberLemmas.{and_false}
 use Rattle.std.proofs.lemmas.List.{take_more, length-take-le}
-use Rattle.lk_abs.specs.declared.holder.Manner.{Manner}
+use Rattle.lk_names.specs.declared.holder.Manner.{Manner}
 use Rattle.lk_rows.specs.Programs.{way_from, way_after, op_way, is_try}
 use Rattle.lk_rows.specs.declared.setup.Op.{Op}
 use Rattle.lk_forms.specs.Operations.{way_after_all, same_way, same_holds, try_from, try_at}

@@ -4,12 +4,12 @@ use Rattle.std.proofs.lemmas.Bool.Decides.{nat_tests}
 use Rattle.std.specs.List.{list_all}
 use Rattle.std.specs.Str.{bytes_eq}
 use Rattle.std.specs.Char.{digit_value}
-use Rattle.lk_abs.specs.declared.names.Waiter.{Waiter}
-use Rattle.lk_abs.specs.declared.names.LockName.{LockName}
-use Rattle.lk_abs.specs.declared.events.How.{How}
-use Rattle.lk_abs.specs.declared.events.RwHow.{RwHow}
-use Rattle.lk_abs.specs.declared.events.What.{What}
-use Rattle.lk_abs.specs.declared.events.What.TheVariants.{Take, Miss, Release, Kick, Arrive, Pass, Flush, Promote, Leave, Halt, Wake, Int, Nudge, RTake, RRelease, WTake, WRelease}
+use Rattle.lk_names.specs.declared.names.Waiter.{Waiter}
+use Rattle.lk_names.specs.declared.names.LockName.{LockName}
+use Rattle.lk_names.specs.declared.events.How.{How}
+use Rattle.lk_names.specs.declared.events.RwHow.{RwHow}
+use Rattle.lk_names.specs.declared.events.What.{What}
+use Rattle.lk_names.specs.declared.events.What.TheVariants.{Take, Miss, Release, Kick, Arrive, Pass, Flush, Promote, Leave, Halt, Wake, Int, Nudge, RTake, RRelease, WTake, WRelease}
 use Rattle.lk_forms.specs.Texts.{IsSmallLock, IsSmallWaiter, IsSmallWhat, how_text, rw_text, lock_text, waiter_text, owing_text, moved_text, what_text}
 use Rattle.lk_forms.proofs.TextParts.{is_letter, number_same, words_same, how_same, rw_same, lock_same, waiter_same, owing_same, moved_more, moved_same}
 

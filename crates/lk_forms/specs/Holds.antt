@@ -1,6 +1,6 @@
 -- How the code names the ways in which a lock is held.
-use Rattle.lk_abs.specs.declared.holder.Manner.{Manner}
-use Rattle.lk_abs.specs.declared.holder.Manner.TheVariants.{Spins, Reads, Writes}
+use Rattle.lk_names.specs.declared.holder.Manner.{Manner}
+use Rattle.lk_names.specs.declared.holder.Manner.TheVariants.{Spins, Reads, Writes}
 use Rattle.lk_forms.specs.declared.operations.Hold.{Hold}
 use Rattle.lk_forms.specs.declared.operations.Hold.TheVariants.{Spin, Reader, Writer}
 

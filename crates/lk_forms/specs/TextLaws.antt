@@ -1,6 +1,6 @@
 -- Each text of a transcript determines what it tells.
 use Rattle.std.specs.Prelude.{◌≡◌, ◌<◌, ◌^◌, ℕ, List, [], ◌∷◌, ◌++◌, ⊤}
-use Rattle.lk_abs.specs.declared.events.Event.{Event}
+use Rattle.lk_names.specs.declared.events.Event.{Event}
 use Rattle.lk_rows.specs.declared.parts.Counts.{Counts}
 use Rattle.lk_rows.specs.Run.{Occurrence}
 use Rattle.lk_forms.specs.Texts.{IsSmall, event_text, end_text, count_at, count_text, lines, closing}

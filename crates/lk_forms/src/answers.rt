@@ -1,7 +1,7 @@
 // What the readers of lines answer.
 ghost use Rattle.std.specs.Prelude.{◌≡◌};
 
-use lk_abs::{Act, Memory};
+use lk_names::{Act, Memory};
 
 /// What is wrong with a line, or with the end of the input.
 #[derive(Clone, Copy, Debug, PartialEq, Eq)]

@@ -7,7 +7,7 @@ ghost use Rattle.lk_forms.specs.Grammar.{one_word, two_words, no_words, number_i
 use crate::answers::{Fault, LineRefusal, Sched, Which};
 use crate::limits::MAX_ACTS;
 use crate::words::next_word;
-use lk_abs::Act;
+use lk_names::Act;
 use lk_text::read_number;
 
 const TOO_MANY_OR_FEW: LineRefusal = LineRefusal::Bad(Fault::WordCount);

@@ -2,7 +2,7 @@
 // so that nobody has to search for its end first. Single spaces stand between its words. Any other
 // line is left to the reader of lines.
 ghost use Rattle.std.specs.Prelude.{◌≡◌, ◌≤◌, ◌<◌, false, length, take, IfSome, Ok};
-ghost use Rattle.lk_abs.specs.declared.events.Act.TheVariants as act;
+ghost use Rattle.lk_names.specs.declared.events.Act.TheVariants as act;
 ghost use Rattle.lk_text.specs.Feeds.{FeedAt};
 ghost use Rattle.lk_forms.specs.Grammar.{run_of};
 ghost use Rattle.lk_forms.specs.Schedule.{schedule_of};
@@ -11,7 +11,7 @@ ghost use Rattle.lk_forms.specs.Fronts.{EndsNumber, IsStepLine};
 use crate::answers::Sched;
 use crate::arguments::run_of;
 use crate::plain::digits;
-use lk_abs::Act;
+use lk_names::Act;
 
 // The bytes in which such a line stands, with its line feed. Behind `step ` they are 19, and so
 // many digits write a number below 2^64.

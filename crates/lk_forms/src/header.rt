@@ -14,7 +14,7 @@ use crate::settings::{
 };
 use crate::tables::{no_handlers, no_programs, zero_sockets};
 use crate::words::{is_comment, is_text, next_word};
-use lk_abs::{Format, List, MAX_TURNS, Memory, Mode, Topology};
+use lk_names::{Format, List, MAX_TURNS, Memory, Mode, Topology};
 use lk_rows::Setup;
 use std::alloc::Global;
 

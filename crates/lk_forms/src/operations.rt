@@ -6,7 +6,7 @@ ghost use Rattle.lk_forms.specs.Operations.{verb_of, way_after_all, same_way, sa
 ghost use Rattle.lk_forms.specs.Holds.{manner_of};
 
 use crate::answers::Fault;
-use lk_abs::Kind;
+use lk_names::Kind;
 use lk_rows::{Op, Verb};
 
 /// How a lock is held.

@@ -11,7 +11,7 @@ ghost use Rattle.lk_forms.specs.Fronts.{HasDigits, HasNumber};
 use crate::answers::Sched;
 use crate::arguments::run_of;
 use crate::words::is_blank;
-use lk_abs::Act;
+use lk_names::Act;
 
 /// The most bytes of a plain line. Behind `int ` they are at most 19 digits, and so many write a
 /// number below 2^64.

@@ -10,7 +10,7 @@ use crate::answers::{Fault, LineRefusal, Which};
 use crate::limits::MAX_OPS;
 use crate::operations::{fault_of_hold, is_declared, is_nothing_held, verb_of};
 use crate::words::{is_word_end, next_word};
-use lk_abs::{Kind, List};
+use lk_names::{Kind, List};
 use lk_rows::Op;
 use lk_text::read_number;
 use std::alloc::Global;

@@ -4,14 +4,14 @@ ghost use Rattle.lk_forms.specs.Words.{words};
 ghost use Rattle.lk_forms.specs.Operations.{and_then};
 ghost use Rattle.lk_forms.specs.Grammar.{one_word, cpu_word, step_line, schedule_args, reading_of};
 ghost use Rattle.lk_forms.specs.Schedule.{schedule_known, schedule_of, IsInSchedule, SaysNext, IsWithin};
-ghost use Rattle.lk_abs.specs.declared.events.Act.TheVariants as act;
+ghost use Rattle.lk_names.specs.declared.events.Act.TheVariants as act;
 
 use crate::answers::{Fault, LineRefusal, Sched};
 use crate::arguments::{cpu_word, no_words, number_in, one_word, run_of, two_words};
 use crate::keyword::{END_RANK, GO_RANK, Keyword};
 use crate::plain::plain_act;
 use crate::words::{is_comment, is_text, next_word};
-use lk_abs::Act;
+use lk_names::Act;
 
 // `step p n`
 fn step_line(cpus: u32, acts: u64, args: &[u8]) -> Result<Sched, LineRefusal>

@@ -1,6 +1,6 @@
 // The lines of a header, each by the words behind its keyword.
 ghost use Rattle.std.specs.Prelude.{◌≡◌, ◌≤◌, ◌<◌, ◌⊎◌, Ok, Err, IfOk, IfErr, length, []};
-ghost use Rattle.lk_abs.specs.declared.limits.TheConstants.{MAX_SOCKET};
+ghost use Rattle.lk_names.specs.declared.limits.TheConstants.{MAX_SOCKET};
 ghost use Rattle.lk_text.specs.Numbers.{number_of};
 ghost use Rattle.lk_forms.specs.Words.{words};
 ghost use Rattle.lk_forms.specs.declared.limits.TheConstants.{MAX_LOCKS, MAX_WIDE_CPUS};
@@ -15,7 +15,7 @@ use crate::limits::{MAX_CPUS, MAX_HANDLERS, MAX_LOCKS, MAX_WIDE_CPUS};
 use crate::programs::read_ops;
 use crate::tables::{no_handlers, no_programs, zero_sockets};
 use crate::words::next_word;
-use lk_abs::{Format, Kind, List, MAX_SOCKET, MAX_TURNS, Mode};
+use lk_names::{Format, Kind, List, MAX_SOCKET, MAX_TURNS, Mode};
 use lk_rows::Setup;
 use lk_text::read_number;
 use std::alloc::Global;

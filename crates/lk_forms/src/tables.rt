@@ -3,7 +3,7 @@ ghost use Rattle.std.specs.Prelude.{◌≡◌, ℕ, IfOk, replicate};
 ghost use Rattle.lk_forms.specs.Grammar.{list_of, no_programs, no_handlers};
 
 use crate::limits::MAX_HANDLERS;
-use lk_abs::{List, Memory};
+use lk_names::{List, Memory};
 use lk_rows::Op;
 use std::alloc::Global;
 

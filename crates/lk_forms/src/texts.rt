@@ -5,7 +5,7 @@ ghost use Rattle.lk_text.specs.Line.{line_text};
 ghost use Rattle.lk_text.specs.Block.{waiting};
 
 use crate::page::Page;
-use lk_abs::{Event, How, LockName, RwHow, Waiter, What};
+use lk_names::{Event, How, LockName, RwHow, Waiter, What};
 use lk_rows::Counts;
 use lk_text::{Block, LineBuf};
 

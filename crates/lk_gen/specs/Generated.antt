@@ -1,10 +1,10 @@
 -- The generated trace of a start number.
 use Rattle.std.specs.Prelude.{ℕ, ◌+◌, ◌*◌, ◌%◌, ◌/◌, List, [], ◌∷◌, ◌++◌, codes, decimal, map, replicate, zero, suc}
-use Rattle.lk_abs.specs.declared.names.Format.TheVariants.{One}
-use Rattle.lk_abs.specs.declared.events.Act.{Act}
-use Rattle.lk_abs.specs.declared.events.Act.TheVariants as act
-use Rattle.lk_abs.specs.declared.names.Kind.TheVariants.{Spin}
-use Rattle.lk_abs.specs.declared.names.Mode.TheVariants.{Cna}
+use Rattle.lk_names.specs.declared.names.Format.TheVariants.{One}
+use Rattle.lk_names.specs.declared.events.Act.{Act}
+use Rattle.lk_names.specs.declared.events.Act.TheVariants as act
+use Rattle.lk_names.specs.declared.names.Kind.TheVariants.{Spin}
+use Rattle.lk_names.specs.declared.names.Mode.TheVariants.{Cna}
 use Rattle.lk_rows.specs.declared.setup.Verb.TheVariants.{Lock, Unlock}
 use Rattle.lk_rows.specs.declared.setup.Op.{Op}
 use Rattle.lk_rows.specs.declared.setup.Setup.{Setup}

@@ -3,11 +3,11 @@ use Rattle.std.proofs.Common.{◌≡◌, ℕ, ◌<◌, ◌≤◌, true, List, []
 use Rattle.std.proofs.Common.{Option, Some, sym, refl, ap, ◌∙◌, subst, arith, eq-eqb}
 use Rattle.std.specs.Prelude.{if◌then◌else◌}
 use Rattle.std.specs.List.{sum}
-use Rattle.lk_abs.specs.Jobs.{full, after_job, reply_to, IsAmong}
-use Rattle.lk_abs.specs.Journal.{balances_after, IsRight, is_write}
-use Rattle.lk_abs.specs.declared.ledger.Entry.{Entry}
-use Rattle.lk_abs.specs.declared.ledger.Job.{Job}
-use Rattle.lk_abs.specs.declared.ledger.Reply.{Reply}
+use Rattle.lk_names.specs.Jobs.{full, after_job, reply_to, IsAmong}
+use Rattle.lk_names.specs.Journal.{balances_after, IsRight, is_write}
+use Rattle.lk_names.specs.declared.ledger.Entry.{Entry}
+use Rattle.lk_names.specs.declared.ledger.Job.{Job}
+use Rattle.lk_names.specs.declared.ledger.Reply.{Reply}
 use Rattle.lk_domain.proofs.journals.Loads.{entries_long}
 use Rattle.lk_domain.specs.Ledgers.{Ledger, Out, brought, manner_of, trail_of}
 use Rattle.lk_domain.specs.Plans.{IsRunningPlan, accounts_of}

@@ -5,14 +5,14 @@ use Rattle.std.proofs.Math.Seq.{take-length}
 use Rattle.std.proofs.lemmas.List.{ext_get_or}
 use Rattle.std.proofs.lemmas.List.Sums.{sum_by_more, sum_by-take-le}
 use Rattle.std.specs.List.{sum}
-use Rattle.lk_abs.proofs.Sums.{small_after}
-use Rattle.lk_abs.specs.Jobs.{full, after_job, reply_to}
-use Rattle.lk_abs.specs.Journal.{balances_after, Replays, IsRight, is_write}
-use Rattle.lk_abs.specs.declared.ledger.Entry.{Entry}
-use Rattle.lk_abs.specs.declared.ledger.Job.{Job}
-use Rattle.lk_abs.specs.declared.ledger.Job.TheVariants.{Move, Add, Sum, Get}
-use Rattle.lk_abs.specs.declared.ledger.Reply.{Reply}
-use Rattle.lk_abs.specs.declared.ledger.Reply.TheVariants.{Amount}
+use Rattle.lk_names.proofs.Sums.{small_after}
+use Rattle.lk_names.specs.Jobs.{full, after_job, reply_to}
+use Rattle.lk_names.specs.Journal.{balances_after, Replays, IsRight, is_write}
+use Rattle.lk_names.specs.declared.ledger.Entry.{Entry}
+use Rattle.lk_names.specs.declared.ledger.Job.{Job}
+use Rattle.lk_names.specs.declared.ledger.Job.TheVariants.{Move, Add, Sum, Get}
+use Rattle.lk_names.specs.declared.ledger.Reply.{Reply}
+use Rattle.lk_names.specs.declared.ledger.Reply.TheVariants.{Amount}
 use Rattle.lk_domain.proofs.journals.Loads.{entries_long}
 use Rattle.lk_domain.specs.Keeps.{balance, AreLoaded}
 use Rattle.lk_domain.specs.Plans.{accounts_of}

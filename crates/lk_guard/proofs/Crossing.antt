@@ -1,7 +1,7 @@
 -- A region may be seen by all threads at once.
 use denote.Param.Send.{IsSync, sendable}
 use Rattle.std.proofs.Crossing.{crosses}
-use Rattle.lk_abs.proofs.names.Kind.TheSendSync as kind
+use Rattle.lk_names.proofs.names.Kind.TheSendSync as kind
 use Rattle.lk_domain.proofs.Crossing.{domain_sync, domain_field_sync}
 use Rattle.lk_guard.specs.contracts.region.Region as Region
 use Rattle.lk_guard.specs.contracts.pv_region.PvRegion as PvRegion

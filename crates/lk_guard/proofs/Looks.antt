@@ -4,10 +4,10 @@ use Rattle.std.proofs.Common.{Option, Some, sym, refl, ap, ◌∙◌, subst, ari
 use Rattle.std.proofs.lemmas.List.{append-nil}
 use Rattle.std.specs.List.{sum}
 use Rattle.atomic_table.specs.declared.shared.Seat.{Seat}
-use Rattle.lk_abs.specs.Jobs.{full}
-use Rattle.lk_abs.specs.Journal.{Replays, is_write}
-use Rattle.lk_abs.specs.declared.ledger.Job.{Job}
-use Rattle.lk_abs.specs.declared.ledger.Reply.{Reply}
+use Rattle.lk_names.specs.Jobs.{full}
+use Rattle.lk_names.specs.Journal.{Replays, is_write}
+use Rattle.lk_names.specs.declared.ledger.Job.{Job}
+use Rattle.lk_names.specs.declared.ledger.Reply.{Reply}
 use Rattle.lk_domain.specs.Keeps.{IsOpen, IsVersion, Slot}
 use Rattle.lk_domain.specs.Calls.{Mark}
 use Rattle.lk_domain.specs.Ledgers.{Ledger, Look, loaded, sighted, look_sees, new_look, opened, closed}

@@ -1,8 +1,8 @@
 -- A hold of a processor that may halt begins a look. Nothing polls there, so nothing is counted.
 use Rattle.std.proofs.Common.{◌≡◌, ℕ, zero, suc, List, ◌∷◌, None, true, false, refl, sym, ap, ◌∙◌, subst}
-use Rattle.lk_abs.specs.declared.holder.Manner.TheVariants.{Spins}
-use Rattle.lk_abs.specs.declared.names.Kind.{Kind}
-use Rattle.lk_abs.specs.declared.names.Kind.TheVariants.{Spin}
+use Rattle.lk_names.specs.declared.holder.Manner.TheVariants.{Spins}
+use Rattle.lk_names.specs.declared.names.Kind.{Kind}
+use Rattle.lk_names.specs.declared.names.Kind.TheVariants.{Spin}
 use Rattle.lk_rows.specs.declared.setup.Verb.TheVariants.{Lock}
 use Rattle.lk_domain.specs.Calls.{Hold, Mark, hold, lock_name}
 use Rattle.lk_domain.specs.Ledgers.{Ledger, new_look, opened}

@@ -4,10 +4,10 @@ use Rattle.std.proofs.Common.{length, get_or, slice_get, Option, Some, take, dro
 use Rattle.std.proofs.lemmas.Option.{get_or_from_slice_get}
 use Rattle.std.proofs.lemmas.List.{append_assoc, append-nil, take_more, length-take-le}
 use Rattle.std.specs.Prelude.{if◌then◌else◌}
-use Rattle.lk_abs.specs.Journal.{is_write}
-use Rattle.lk_abs.specs.declared.ledger.Job.{Job}
-use Rattle.lk_abs.specs.declared.ledger.Reply.{Reply}
-use Rattle.lk_abs.specs.declared.ledger.Seen.{Seen}
+use Rattle.lk_names.specs.Journal.{is_write}
+use Rattle.lk_names.specs.declared.ledger.Job.{Job}
+use Rattle.lk_names.specs.declared.ledger.Reply.{Reply}
+use Rattle.lk_names.specs.declared.ledger.Seen.{Seen}
 use Rattle.lk_domain.specs.Ledgers.{Ledger}
 use Rattle.lk_guard.specs.Deeds.{Deed, wrote, saw, IsDeed, AreDeeds, after_deed, after_deeds}
 use Rattle.lk_guard.specs.Deeds.{records_of, HasDone, Worked, writes_in, reads_in}

@@ -1,9 +1,9 @@
 -- What the jobs of a worker leave.
 use Rattle.std.specs.Prelude.{◌≡◌, ℕ, ◌+◌, true, false, List, [], ◌∷◌, ◌++◌, if◌then◌else◌}
-use Rattle.lk_abs.specs.Journal.{is_write}
-use Rattle.lk_abs.specs.declared.ledger.Entry.{Entry}
-use Rattle.lk_abs.specs.declared.ledger.Job.{Job}
-use Rattle.lk_abs.specs.declared.ledger.Seen.{Seen}
+use Rattle.lk_names.specs.Journal.{is_write}
+use Rattle.lk_names.specs.declared.ledger.Entry.{Entry}
+use Rattle.lk_names.specs.declared.ledger.Job.{Job}
+use Rattle.lk_names.specs.declared.ledger.Seen.{Seen}
 use Rattle.lk_domain.specs.Ledgers.{Ledger, Look}
 use Rattle.lk_guard.specs.Guards.{Guard}
 use Rattle.lk_guard.specs.Reads.{IsRead, after_read}

@@ -1,6 +1,6 @@
 -- A hold of lock 0.
 use Rattle.std.specs.Prelude.{◌≡◌, ℕ, List, [], ◌∷◌, Option}
-use Rattle.lk_abs.specs.declared.holder.Manner.{Manner}
+use Rattle.lk_names.specs.declared.holder.Manner.{Manner}
 use Rattle.lk_rows.specs.declared.setup.Verb.{Verb}
 use Rattle.lk_domain.specs.Calls.{Calls, Mark, hold, lock_name}
 use Rattle.lk_domain.specs.Ledgers.{new_look, opened}

@@ -1,12 +1,12 @@
 -- What a read of the ledger leaves.
 use Rattle.std.specs.Prelude.{◌≡◌, ℕ, zero, suc, ◌≤◌, List, [], ◌∷◌, ◌++◌, map, length, Option, None, Some}
-use Rattle.lk_abs.specs.Jobs.{reply_to}
-use Rattle.lk_abs.specs.Journal.{balances_after, Replays}
-use Rattle.lk_abs.specs.declared.ledger.Entry.{Entry}
-use Rattle.lk_abs.specs.declared.ledger.Job.{Job}
-use Rattle.lk_abs.specs.declared.ledger.Job.TheVariants.{Move, Add, Sum, Get}
-use Rattle.lk_abs.specs.declared.ledger.Reply.{Reply}
-use Rattle.lk_abs.specs.declared.ledger.Reply.TheVariants.{Amount}
+use Rattle.lk_names.specs.Jobs.{reply_to}
+use Rattle.lk_names.specs.Journal.{balances_after, Replays}
+use Rattle.lk_names.specs.declared.ledger.Entry.{Entry}
+use Rattle.lk_names.specs.declared.ledger.Job.{Job}
+use Rattle.lk_names.specs.declared.ledger.Job.TheVariants.{Move, Add, Sum, Get}
+use Rattle.lk_names.specs.declared.ledger.Reply.{Reply}
+use Rattle.lk_names.specs.declared.ledger.Reply.TheVariants.{Amount}
 use Rattle.lk_domain.specs.Ledgers.{Ledger, Look, loaded, sighted}
 use Rattle.lk_domain.specs.Places.{places}
 use Rattle.lk_domain.specs.Views.{total}

@@ -1,7 +1,7 @@
 -- The balance words as a processor knows them that has the journal out.
 use Rattle.std.specs.Prelude.{◌≡◌, ◌<◌, ℕ, List, [], length, Option, Some, None}
 use Rattle.std.specs.List.{sum}
-use Rattle.lk_abs.specs.Jobs.{full}
+use Rattle.lk_names.specs.Jobs.{full}
 use Rattle.lk_domain.specs.Ledgers.{Ledger, Out}
 
 -- the words

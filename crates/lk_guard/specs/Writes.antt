@@ -1,9 +1,9 @@
 -- What a write to the ledger leaves.
 use Rattle.std.specs.Prelude.{◌≡◌, ℕ, ◌+◌, ◌-◌, ◌≤◌, List, [], ◌∷◌, ◌++◌, length, Option, Some, None}
-use Rattle.lk_abs.specs.Journal.{balances_after, Replays, IsRight}
-use Rattle.lk_abs.specs.declared.ledger.Entry.{Entry}
-use Rattle.lk_abs.specs.declared.ledger.Job.{Job}
-use Rattle.lk_abs.specs.declared.ledger.Reply.{Reply}
+use Rattle.lk_names.specs.Journal.{balances_after, Replays, IsRight}
+use Rattle.lk_names.specs.declared.ledger.Entry.{Entry}
+use Rattle.lk_names.specs.declared.ledger.Job.{Job}
+use Rattle.lk_names.specs.declared.ledger.Reply.{Reply}
 use Rattle.lk_domain.specs.Ledgers.{Ledger, Look, new_look, manner_of, trail_of, listed_look}
 use Rattle.lk_run.specs.Polls.{IsPolled}
 use Rattle.lk_guard.specs.Guards.{Guard, IsToWrite, IsBare}

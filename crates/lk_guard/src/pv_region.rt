@@ -1,6 +1,6 @@
 // The ledger of a domain whose waiters halt, under its one lock.
 ghost use Rattle.std.specs.Prelude.{◌≡◌, None};
-ghost use Rattle.lk_abs.specs.declared.holder.Manner.TheVariants.{Spins};
+ghost use Rattle.lk_names.specs.declared.holder.Manner.TheVariants.{Spins};
 ghost use Rattle.lk_rows.specs.declared.setup.Verb.TheVariants.{Lock};
 ghost use Rattle.lk_domain.specs.Ledgers.{closed};
 ghost use Rattle.lk_domain.specs.Plans.{locks_of};
@@ -15,7 +15,7 @@ use crate::books::Books;
 use crate::region::FIRST;
 use crate::updates::Task;
 use crate::working::Guarded;
-use lk_abs::{Job, Reply};
+use lk_names::{Job, Reply};
 use lk_pvdomain::{PvCpu, PvDomain, pv_lock, pv_unlock};
 use std::sync::Wait;
 

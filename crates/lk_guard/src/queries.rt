@@ -1,8 +1,8 @@
 // A read of the ledger, in a critical section of its lock.
 ghost use Rattle.std.specs.Prelude.{◌≡◌, ◌<◌, false};
-ghost use Rattle.lk_abs.specs.Jobs.{IsAmong};
-ghost use Rattle.lk_abs.specs.Journal.{is_write};
-ghost use Rattle.lk_abs.specs.declared.ledger.Job.TheVariants as job;
+ghost use Rattle.lk_names.specs.Jobs.{IsAmong};
+ghost use Rattle.lk_names.specs.Journal.{is_write};
+ghost use Rattle.lk_names.specs.declared.ledger.Job.TheVariants as job;
 ghost use Rattle.lk_domain.specs.Keeps.{holds_first};
 ghost use Rattle.lk_domain.specs.Plans.{accounts_of};
 ghost use Rattle.lk_domain.specs.Plays.{OneState};
@@ -15,9 +15,9 @@ ghost use Rattle.lk_guard.specs.Reads.{IsFreshLook, HasSummed, HasLooked, HasRea
 
 use crate::books::Books;
 use crate::region::Region;
-use lk_abs::{Job, Reply};
 use lk_domain::ledger_steps::{accounts, load, version};
 use lk_domain::{Cpu, Right};
+use lk_names::{Job, Reply};
 use lk_run::Irq;
 use std::sync::Wait;
 

@@ -8,8 +8,8 @@ ghost use Rattle.lk_guard.specs.Holding.{IsHolding, HasBegun};
 ghost use Rattle.lk_guard.specs.Idle.{IsIdle, crew_of};
 
 use crate::working::Guarded;
-use lk_abs::{Job, Kind, Reply};
 use lk_domain::{Cpu, Domain, LockId};
+use lk_names::{Job, Kind, Reply};
 use lk_run::{Irq, NoIrq, lock, read_lock, read_unlock, unlock, write_lock, write_unlock};
 use std::sync::Wait;
 

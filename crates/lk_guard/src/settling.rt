@@ -1,18 +1,18 @@
 // A job on the balance words of a domain, by the seat of a processor that has the journal out.
 ghost use Rattle.std.specs.Prelude.{◌≡◌, ◌<◌, true, slice_index, slice_set};
 ghost use Rattle.std.specs.List.{sum};
-ghost use Rattle.lk_abs.specs.Jobs.{IsAmong, after_job, reply_to};
-ghost use Rattle.lk_abs.specs.Journal.{is_write};
-ghost use Rattle.lk_abs.specs.declared.ledger.Job.TheVariants as job;
+ghost use Rattle.lk_names.specs.Jobs.{IsAmong, after_job, reply_to};
+ghost use Rattle.lk_names.specs.Journal.{is_write};
+ghost use Rattle.lk_names.specs.declared.ledger.Job.TheVariants as job;
 ghost use Rattle.lk_domain.specs.Keeps.{holds_first};
 ghost use Rattle.lk_domain.specs.Plans.{accounts_of};
 ghost use Rattle.lk_domain.specs.Seated.{IsKept, IsSeatOf};
 ghost use Rattle.lk_guard.specs.Settling.{Stands, words_of, with_words};
 
 use crate::books::Books;
-use lk_abs::{Job, Reply};
 use lk_domain::Right;
 use lk_domain::ledger_steps::{accounts, load, store};
+use lk_names::{Job, Reply};
 
 /// The sum of all balances stays below this amount.
 const FULL: u64 = 1 << 63;

@@ -1,7 +1,7 @@
 // A write to the ledger, in a critical section of its lock.
 ghost use Rattle.std.specs.Prelude.{◌≡◌, ◌<◌, ◌≤◌, true, Some, None};
-ghost use Rattle.lk_abs.specs.Jobs.{IsAmong};
-ghost use Rattle.lk_abs.specs.Journal.{is_write};
+ghost use Rattle.lk_names.specs.Jobs.{IsAmong};
+ghost use Rattle.lk_names.specs.Journal.{is_write};
 ghost use Rattle.lk_domain.specs.Keeps.{holds_first, alone_first};
 ghost use Rattle.lk_domain.specs.Plans.{accounts_of};
 ghost use Rattle.lk_domain.specs.Seated.{IsKept, IsSeatOf};
@@ -12,9 +12,9 @@ ghost use Rattle.lk_guard.specs.Writes.{HasAppended, HasWritten};
 
 use crate::books::Books;
 use crate::region::Region;
-use lk_abs::{Entry, Job, Reply};
 use lk_domain::ledger_steps::{journal_home, journal_out};
 use lk_domain::{Cpu, Right};
+use lk_names::{Entry, Job, Reply};
 use lk_run::Irq;
 use std::sync::Wait;
 

@@ -1,7 +1,7 @@
 // All jobs of a worker, on a region of whichever family.
 ghost use Rattle.std.specs.Prelude.{◌≡◌, ◌<◌, ◌≤◌, ◌+◌, ◌^◌, All, true, false, None, length};
-ghost use Rattle.lk_abs.specs.Jobs.{IsAmong};
-ghost use Rattle.lk_abs.specs.Journal.{is_write};
+ghost use Rattle.lk_names.specs.Jobs.{IsAmong};
+ghost use Rattle.lk_names.specs.Journal.{is_write};
 ghost use Rattle.lk_domain.specs.Plans.{accounts_of};
 ghost use Rattle.lk_guard.specs.Idle.{Crew, Stays};
 ghost use Rattle.lk_guard.specs.Deeds.{HasDone, Worked, writes_in, reads_in};
@@ -11,7 +11,7 @@ ghost use Rattle.lk_guard.specs.Writes.{HasWritten};
 
 use crate::gate::Gate;
 use crate::updates::Task;
-use lk_abs::{Job, List, Reply, Seen};
+use lk_names::{Job, List, Reply, Seen};
 use std::sync::Wait;
 
 /// Whether a job may change a balance: a `Move` or an `Add` may.

@@ -1,9 +1,9 @@
 -- Machines that are alike go on alike.
 use Rattle.std.proofs.Common.{List, [], ◌∷◌, map, suc, ◌≡◌, ℕ, ◌+◌, Option, Some, None, Bool, true, false, ap, refl, sym, ◌∙◌, subst}
 use Rattle.std.specs.Prelude.{if◌then◌else◌, ◌||◌, ◌&&◌, not, nat_le, unwrap_or}
-use Rattle.lk_abs.specs.declared.events.Act.{Act}
-use Rattle.lk_abs.specs.declared.events.Act.TheVariants as act
-use Rattle.lk_abs.specs.declared.events.What.TheVariants as what
+use Rattle.lk_names.specs.declared.events.Act.{Act}
+use Rattle.lk_names.specs.declared.events.Act.TheVariants as act
+use Rattle.lk_names.specs.declared.events.What.TheVariants as what
 use Rattle.lk_rows.specs.declared.setup.Verb.{Verb}
 use Rattle.lk_rows.specs.declared.setup.Verb.TheVariants.{Read, Write}
 use Rattle.lk_rows.specs.declared.parts.Frame.{Frame}

@@ -1,7 +1,7 @@
 -- What a row stores, on a machine whose dead registers are at rest.
 use Rattle.std.proofs.Common.{◌≡◌, ℕ, Option, Some, None, Bool, refl, sym, subst, ap, ◌∙◌, get_or, set}
-use Rattle.lk_abs.specs.Lawful.{is_local}
-use Rattle.lk_abs.specs.declared.names.LockName.{LockName}
+use Rattle.lk_names.specs.Lawful.{is_local}
+use Rattle.lk_names.specs.declared.names.LockName.{LockName}
 use Rattle.lk_word.specs.declared.spin_word.NodeName.{NodeName}
 use Rattle.lk_word.specs.declared.spin_word.Fields.{Fields}
 use Rattle.lk_word.specs.declared.rw_word.RwFields.{RwFields}

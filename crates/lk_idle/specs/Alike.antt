@@ -1,7 +1,7 @@
 -- Machines that are alike: without what nobody reads before it is written they are the same.
 use Rattle.std.specs.Prelude.{◌≡◌, None, false, map}
 use Rattle.std.specs.Prelude.{if◌then◌else◌}
-use Rattle.lk_abs.specs.declared.events.Act.{Act}
+use Rattle.lk_names.specs.declared.events.Act.{Act}
 use Rattle.lk_rows.specs.declared.parts.Frame.{Frame}
 use Rattle.lk_rows.specs.declared.parts.Why.TheVariants as why
 use Rattle.lk_rows.specs.Machine.{Machine, CpuState}

@@ -1,7 +1,7 @@
 -- What a whole text says as a job file is lawful.
 use Rattle.std.proofs.Common.{◌+◌, ◌&&◌, ℕ, Bool, true, false, List, [], ◌∷◌, Option, None, Some, Result, Ok, Err, IfOk, length, nat_le, nat_lt, if◌then◌else◌}
 use Rattle.std.proofs.lemmas.Result.{IfOk-at_ok}
-use Rattle.lk_abs.specs.Workload.{IsLawful}
+use Rattle.lk_names.specs.Workload.{IsLawful}
 use Rattle.lk_text.specs.Feeds.{pieces, line_of}
 use Rattle.lk_text.specs.declared.reader.TheConstants.{MAX_INPUT, MAX_LINE}
 use Rattle.lk_forms.specs.declared.answers.Fault.{Fault}

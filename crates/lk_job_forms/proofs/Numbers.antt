@@ -3,11 +3,11 @@
 use Rattle.std.proofs.Common.{◌≡◌, ◌<◌, ◌+◌, ◌==◌, ℕ, zero, suc, Bool, true, false, cond, List, [], ◌∷◌, ◌++◌, drop, map, true≢false, refl, sym, ap, ◌∙◌, arith, if◌then◌else◌}
 use Rattle.std.specs.Prelude.{slice_index_or}
 use Rattle.std.proofs.lemmas.Bool.Decides.{nat_tests}
-use Rattle.lk_abs.specs.declared.ledger.Job.{Job}
-use Rattle.lk_abs.specs.declared.ledger.Entry.{Entry}
-use Rattle.lk_abs.specs.Journal.{is_write}
-use Rattle.lk_abs.specs.Workload.{jobs_of}
-use Rattle.lk_abs.specs.Outcome.{entries_of, label_of, writes_from, reads_from, asked_from, tag_of}
+use Rattle.lk_names.specs.declared.ledger.Job.{Job}
+use Rattle.lk_names.specs.declared.ledger.Entry.{Entry}
+use Rattle.lk_names.specs.Journal.{is_write}
+use Rattle.lk_names.specs.Workload.{jobs_of}
+use Rattle.lk_names.specs.Outcome.{entries_of, label_of, writes_from, reads_from, asked_from, tag_of}
 use Rattle.lk_job_forms.specs.TextLaws.{IsToldEntry, OutcomesAreTold}
 use Rattle.lk_job_forms.proofs.OutcomeTexts.{AreAlike, outcome_same}
 

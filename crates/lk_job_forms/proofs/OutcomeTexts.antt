@@ -1,8 +1,8 @@
 -- The text of an outcome determines it, but for the numbers of the entries' jobs.
 use Rattle.std.proofs.Common.{◌≡◌, ◌≢◌, ◌<◌, ◌+◌, ◌^◌, ℕ, List, [], ◌∷◌, ◌++◌, length, refl, sym, ap, ◌∙◌, append_assoc, arith}
 use Rattle.std.specs.Prelude.{⊤}
-use Rattle.lk_abs.specs.declared.ledger.Entry.{Entry}
-use Rattle.lk_abs.specs.declared.ledger.Seen.{Seen}
+use Rattle.lk_names.specs.declared.ledger.Entry.{Entry}
+use Rattle.lk_names.specs.declared.ledger.Seen.{Seen}
 use Rattle.lk_job_forms.specs.Texts.{entry_text, seen_text, balance_text, total_text, entry_lines_from, seen_lines, balance_lines_from, outcome_text}
 use Rattle.lk_job_forms.specs.TextLaws.{IsToldEntry, AreSmallEntries, AreSmallReads, AreSmallBalances, IsSmall}
 use Rattle.lk_job_forms.proofs.JobTexts.{entry_same, seen_same, balance_same}

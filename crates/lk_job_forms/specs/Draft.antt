@@ -1,6 +1,6 @@
 -- What a draft says, and what a line makes of it.
 use Rattle.std.specs.Prelude.{◌≡◌, ◌⊎◌, Result, Ok, Err, map}
-use Rattle.lk_abs.specs.Workload.{Workload}
+use Rattle.lk_names.specs.Workload.{Workload}
 use Rattle.lk_forms.specs.declared.answers.LineRefusal.{LineRefusal}
 use Rattle.lk_forms.specs.declared.answers.LineRefusal.TheVariants.{Memory}
 use Rattle.lk_job_forms.specs.declared.draft.Draft.{Draft}

@@ -2,12 +2,12 @@
 use Rattle.std.specs.Prelude.{◌≡◌, ◌≤◌, ℕ, ◌==◌, Bool, List, [], ◌∷◌, Option, None, Some, Result, Ok, Err, is_some, replicate, unwrap_or, codes, if◌then◌else◌}
 use Rattle.std.specs.Str.{bytes_eq}
 use Rattle.lk_forms.specs.Words.{words, is_text, is_comment}
-use Rattle.lk_abs.specs.declared.names.Format.{Format}
-use Rattle.lk_abs.specs.declared.names.Format.TheVariants.{One}
-use Rattle.lk_abs.specs.declared.names.Kind.TheVariants.{Spin}
-use Rattle.lk_abs.specs.declared.names.Mode.TheVariants.{Virt}
-use Rattle.lk_abs.specs.declared.limits.TheConstants.{MAX_TURNS}
-use Rattle.lk_abs.specs.Workload.{Workload, job_count, IsLawful}
+use Rattle.lk_names.specs.declared.names.Format.{Format}
+use Rattle.lk_names.specs.declared.names.Format.TheVariants.{One}
+use Rattle.lk_names.specs.declared.names.Kind.TheVariants.{Spin}
+use Rattle.lk_names.specs.declared.names.Mode.TheVariants.{Virt}
+use Rattle.lk_names.specs.declared.limits.TheConstants.{MAX_TURNS}
+use Rattle.lk_names.specs.Workload.{Workload, job_count, IsLawful}
 use Rattle.lk_forms.specs.Grammar.{format_numbered}
 use Rattle.lk_forms.specs.Operations.{and_then, unless}
 use Rattle.lk_forms.specs.declared.answers.Fault.{Fault}

@@ -1,6 +1,6 @@
 -- What a text says as a job file.
 use Rattle.std.specs.Prelude.{◌≡◌, ℕ, List, [], Result, Ok, Err}
-use Rattle.lk_abs.specs.Workload.{Workload, IsLawful}
+use Rattle.lk_names.specs.Workload.{Workload, IsLawful}
 use Rattle.lk_forms.specs.declared.answers.LineRefusal.{LineRefusal}
 use Rattle.lk_stream.specs.Grammar.{Grammar as GrammarOf, Saying, Good, Refused, saying}
 use Rattle.lk_job_forms.specs.Grammar.{Reading, nothing_read, read, ending}

@@ -3,15 +3,15 @@
 use Rattle.std.specs.Prelude.{ℕ, ◌==◌, nat_le, nat_lt, List, [], ◌∷◌, ◌++◌, Result, Ok, Err, length, replicate, slice_set, codes, if◌then◌else◌}
 use Rattle.std.specs.List.{sum}
 use Rattle.std.specs.Str.{bytes_eq}
-use Rattle.lk_abs.specs.declared.names.Mode.{Mode}
-use Rattle.lk_abs.specs.declared.names.Kind.{Kind}
-use Rattle.lk_abs.specs.declared.names.Kind.TheVariants.{Spin, Rw}
-use Rattle.lk_abs.specs.declared.names.Mode.TheVariants.{Pv}
-use Rattle.lk_abs.specs.declared.ledger.Job.{Job}
-use Rattle.lk_abs.specs.declared.ledger.Job.TheVariants.{Move, Add, Sum, Get}
-use Rattle.lk_abs.specs.Jobs.{full}
-use Rattle.lk_abs.specs.declared.limits.TheConstants.{MAX_SOCKET, MAX_TURNS, MAX_ACCOUNTS, MAX_AMOUNT, MAX_JOBS, MAX_WORKERS}
-use Rattle.lk_abs.specs.Workload.{Workload, workers_of, jobs_of, job_count}
+use Rattle.lk_names.specs.declared.names.Mode.{Mode}
+use Rattle.lk_names.specs.declared.names.Kind.{Kind}
+use Rattle.lk_names.specs.declared.names.Kind.TheVariants.{Spin, Rw}
+use Rattle.lk_names.specs.declared.names.Mode.TheVariants.{Pv}
+use Rattle.lk_names.specs.declared.ledger.Job.{Job}
+use Rattle.lk_names.specs.declared.ledger.Job.TheVariants.{Move, Add, Sum, Get}
+use Rattle.lk_names.specs.Jobs.{full}
+use Rattle.lk_names.specs.declared.limits.TheConstants.{MAX_SOCKET, MAX_TURNS, MAX_ACCOUNTS, MAX_AMOUNT, MAX_JOBS, MAX_WORKERS}
+use Rattle.lk_names.specs.Workload.{Workload, workers_of, jobs_of, job_count}
 use Rattle.lk_forms.specs.Operations.{and_then}
 use Rattle.lk_forms.specs.Grammar.{one_word, two_words, no_words, number_in, numbers_from, cpu_word, kind_word, mode_word}
 use Rattle.lk_forms.specs.declared.answers.Fault.TheVariants.{UnknownWord, WordCount, OutOfRange, Misplaced, WrongLock}

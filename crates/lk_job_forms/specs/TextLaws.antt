@@ -1,13 +1,13 @@
 -- Each text of an outcome determines what it tells.
 use Rattle.std.specs.Prelude.{◌≡◌, ◌<◌, ◌^◌, ◌+◌, ⊤, ℕ, List, [], ◌∷◌, length}
-use Rattle.lk_abs.specs.declared.ledger.Job.{Job}
-use Rattle.lk_abs.specs.declared.ledger.Job.TheVariants.{Move, Add, Sum, Get}
-use Rattle.lk_abs.specs.declared.ledger.Reply.{Reply}
-use Rattle.lk_abs.specs.declared.ledger.Reply.TheVariants.{Amount}
-use Rattle.lk_abs.specs.declared.ledger.Entry.{Entry}
-use Rattle.lk_abs.specs.declared.ledger.Seen.{Seen}
-use Rattle.lk_abs.specs.Workload.{Workload}
-use Rattle.lk_abs.specs.Outcome.{IsOutcome}
+use Rattle.lk_names.specs.declared.ledger.Job.{Job}
+use Rattle.lk_names.specs.declared.ledger.Job.TheVariants.{Move, Add, Sum, Get}
+use Rattle.lk_names.specs.declared.ledger.Reply.{Reply}
+use Rattle.lk_names.specs.declared.ledger.Reply.TheVariants.{Amount}
+use Rattle.lk_names.specs.declared.ledger.Entry.{Entry}
+use Rattle.lk_names.specs.declared.ledger.Seen.{Seen}
+use Rattle.lk_names.specs.Workload.{Workload}
+use Rattle.lk_names.specs.Outcome.{IsOutcome}
 use Rattle.lk_job_forms.specs.Texts.{entry_text, seen_text, balance_text, total_text, outcome_text}
 
 -- numbers of 64 bits, as all of the code are

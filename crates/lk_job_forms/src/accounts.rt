@@ -1,15 +1,15 @@
 // The opening balances.
 ghost use Rattle.std.specs.Prelude.{◌≡◌, ◌≤◌, ◌⊎◌, [], IfOk, IfErr, Ok, Err, length, nat_lt};
 ghost use Rattle.std.specs.List.{sum};
-ghost use Rattle.lk_abs.specs.Jobs.{full};
-ghost use Rattle.lk_abs.specs.declared.limits.TheConstants.{MAX_ACCOUNTS};
+ghost use Rattle.lk_names.specs.Jobs.{full};
+ghost use Rattle.lk_names.specs.declared.limits.TheConstants.{MAX_ACCOUNTS};
 ghost use Rattle.lk_forms.specs.Words.{words};
 ghost use Rattle.lk_job_forms.specs.Lines.{balances_from, balances_of, accounts_line};
 ghost use Rattle.lk_job_forms.specs.Draft.{work_of, Makes};
 
 use crate::draft::Draft;
-use lk_abs::{List, MAX_ACCOUNTS, MAX_AMOUNT};
 use lk_forms::{Fault, LineRefusal, Which, next_word, number_in};
+use lk_names::{List, MAX_ACCOUNTS, MAX_AMOUNT};
 use std::alloc::Global;
 
 // The balances that the words write.

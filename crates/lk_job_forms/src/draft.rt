@@ -1,10 +1,10 @@
 // What the lines of a job file have said so far.
 ghost use Rattle.std.specs.Prelude.{◌≡◌, ◌≤◌, [], IfOk, length, map, replicate};
-ghost use Rattle.lk_abs.specs.declared.limits.TheConstants.{MAX_ACCOUNTS, MAX_WORKERS};
-ghost use Rattle.lk_abs.specs.Workload.{job_count};
+ghost use Rattle.lk_names.specs.declared.limits.TheConstants.{MAX_ACCOUNTS, MAX_WORKERS};
+ghost use Rattle.lk_names.specs.Workload.{job_count};
 
-use lk_abs::{Format, Job, Kind, List, MAX_JOBS, MAX_TURNS, Memory, Mode};
 use lk_forms::{LineRefusal, Which};
+use lk_names::{Format, Job, Kind, List, MAX_JOBS, MAX_TURNS, Memory, Mode};
 use std::alloc::Global;
 
 /// A job file whose jobs are still growing.
@@ -45,8 +45,8 @@ pub(crate) fn no_jobs(alloc: Global, workers: usize) -> Result<List<Vec<Job>>, M
 
 impl Draft {
     ghost use Rattle.std.specs.Prelude.{◌≡◌, ◌<◌, IfOk, false, map, nat_le};
-    ghost use Rattle.lk_abs.specs.declared.limits.TheConstants.{MAX_JOBS};
-    ghost use Rattle.lk_abs.specs.Workload.{workers_of, job_count};
+    ghost use Rattle.lk_names.specs.declared.limits.TheConstants.{MAX_JOBS};
+    ghost use Rattle.lk_names.specs.Workload.{workers_of, job_count};
     ghost use Rattle.lk_job_forms.specs.Grammar.{usual_workload};
     ghost use Rattle.lk_job_forms.specs.Lines.{with_job};
     ghost use Rattle.lk_job_forms.specs.Draft.{work_of, Makes};

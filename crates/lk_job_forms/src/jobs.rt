@@ -1,14 +1,14 @@
 // The lines of jobs.
 ghost use Rattle.std.specs.Prelude.{◌≡◌, ◌<◌, length};
-ghost use Rattle.lk_abs.specs.Workload.{workers_of};
+ghost use Rattle.lk_names.specs.Workload.{workers_of};
 ghost use Rattle.lk_forms.specs.Agrees.{IsAnswer};
 ghost use Rattle.lk_forms.specs.Words.{words};
 ghost use Rattle.lk_job_forms.specs.Lines.{three_words, amount_word, move_of, add_of, get_of, job_of, worker_job, job_line};
 ghost use Rattle.lk_job_forms.specs.Draft.{work_of, Makes};
 
 use crate::draft::Draft;
-use lk_abs::{Job, MAX_AMOUNT};
 use lk_forms::{Fault, LineRefusal, cpu_word, next_word, no_words, number_in, one_word, two_words};
+use lk_names::{Job, MAX_AMOUNT};
 
 const TOO_MANY_OR_FEW: LineRefusal = LineRefusal::Bad(Fault::WordCount);
 

@@ -10,10 +10,10 @@ use crate::answers::JobStep;
 use crate::draft::Draft;
 use crate::keyword::{END_RANK, Keyword};
 use crate::settings::line_args;
-use lk_abs::{Format, Job, JobFile, List, Memory, Topology};
 use lk_forms::{
     Fault, LineRefusal, format_numbered, is_comment, is_text, next_word, no_words, one_word,
 };
+use lk_names::{Format, Job, JobFile, List, Memory, Topology};
 use std::alloc::Global;
 
 // The format that the two words `qjobs` and `1`, or `qjobs` and `2`, say.
@@ -41,7 +41,7 @@ pub struct JobReader {
 
 impl JobReader {
     ghost use Rattle.std.specs.Prelude.{◌≡◌, IfOk, Some, None, false, true};
-    ghost use Rattle.lk_abs.specs.Workload.{IsLawful, workload_of};
+    ghost use Rattle.lk_names.specs.Workload.{IsLawful, workload_of};
     ghost use Rattle.lk_forms.specs.Words.{words};
     ghost use Rattle.lk_job_forms.specs.declared.keyword.Keyword.TheVariants as keyword;
     ghost use Rattle.lk_job_forms.specs.Grammar.{nothing_read, read, read_placed, read_known, read_ranked, has_end, ending};

@@ -8,11 +8,11 @@ use crate::accounts::accounts_line;
 use crate::draft::{Draft, no_jobs};
 use crate::jobs::job_line;
 use crate::keyword::Keyword;
-use lk_abs::{Kind, List, MAX_TURNS, MAX_WORKERS, Mode};
 use lk_forms::{
     Fault, LineRefusal, count_words, kind_word, mode_word, no_words, number_in, one_word,
     read_sockets,
 };
+use lk_names::{Kind, List, MAX_TURNS, MAX_WORKERS, Mode};
 use std::alloc::Global;
 
 // `mode m`: the guard is a spinlock until a line says another.

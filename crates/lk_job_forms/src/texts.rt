@@ -3,7 +3,7 @@ ghost use Rattle.std.specs.Prelude.{◌≡◌, ◌≤◌, ◌+◌, ◌++◌, len
 ghost use Rattle.lk_text.specs.Line.{line_text};
 ghost use Rattle.lk_job_forms.specs.Texts.{job_text, reply_text, answered_text, entry_text, seen_text, balance_text, total_text};
 
-use lk_abs::{Entry, Job, Reply, Seen};
+use lk_names::{Entry, Job, Reply, Seen};
 use lk_text::LineBuf;
 
 // The words of a job.

@@ -1,19 +1,19 @@
 -- When a snapshot agrees with the histories of all locks; and what a row changes of a snapshot.
 use Rattle.std.specs.Prelude.{◌⊎◌, slice_get, ◌≡◌, ◌≢◌, ◌+◌, ◌<◌, ℕ, Option, Some, None, Bool, true}
 use Rattle.std.specs.Prelude.{false, List, [], ◌∷◌}
-use Rattle.lk_abs.specs.History.{LockHistory}
-use Rattle.lk_abs.specs.declared.holder.Manner.TheVariants.{Spins}
-use Rattle.lk_abs.specs.declared.holder.Holder.{Holder}
-use Rattle.lk_abs.specs.declared.names.Waiter.{Waiter}
-use Rattle.lk_abs.specs.declared.names.LockName.{LockName}
+use Rattle.lk_names.specs.History.{LockHistory}
+use Rattle.lk_names.specs.declared.holder.Manner.TheVariants.{Spins}
+use Rattle.lk_names.specs.declared.holder.Holder.{Holder}
+use Rattle.lk_names.specs.declared.names.Waiter.{Waiter}
+use Rattle.lk_names.specs.declared.names.LockName.{LockName}
 use Rattle.lk_word.specs.declared.spin_word.Fields.{Fields}
 use Rattle.lk_law.specs.Phase.{Phase}
 use Rattle.lk_law.specs.Phase.Phase.{Idle, Holds}
 use Rattle.lk_law.specs.Stage.Stage.{Rests}
 use Rattle.lk_law.specs.Pv.{PostsAgree, agrees, at_halt}
 use Rattle.lk_law.specs.Pv.Post.{Off, Kicks}
-use Rattle.lk_abs.specs.declared.names.Mode.{Mode}
-use Rattle.lk_abs.specs.declared.names.Mode.TheVariants.{Pv}
+use Rattle.lk_names.specs.declared.names.Mode.{Mode}
+use Rattle.lk_names.specs.declared.names.Mode.TheVariants.{Pv}
 use Rattle.lk_word.specs.declared.spin_word.NodeName.{NodeName}
 use Rattle.lk_rows.specs.declared.parts.State.{State}
 use Rattle.lk_law.specs.Cna.{ListsAgree, moves_aside}

@@ -1,10 +1,10 @@
 -- When an event may follow on the histories so far: the laws of a lawful history, one event at a
 -- time.
 use Rattle.std.specs.Prelude.{◌≡◌, Option, Some, None}
-use Rattle.lk_abs.specs.History.{LockHistory, lock_of, changed}
-use Rattle.lk_abs.specs.Lawful.{Rules, IsShared, OwnsUp, InOrder}
-use Rattle.lk_abs.specs.declared.names.LockName.{LockName}
-use Rattle.lk_abs.specs.declared.events.Event.{Event}
+use Rattle.lk_names.specs.History.{LockHistory, lock_of, changed}
+use Rattle.lk_names.specs.Lawful.{Rules, IsShared, OwnsUp, InOrder}
+use Rattle.lk_names.specs.declared.names.LockName.{LockName}
+use Rattle.lk_names.specs.declared.events.Event.{Event}
 
 -- who takes does not hold and who releases holds, the event is in order, and after it only readers
 -- hold the lock, or one waiter

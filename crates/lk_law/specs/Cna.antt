@@ -3,10 +3,10 @@
 use Rattle.std.specs.Prelude.{◌≡◌, ◌≢◌, ◌+◌, ◌<◌, ◌≤◌, ◌||◌, ◌⊎◌, ℕ, Option, if◌then◌else◌, Some}
 use Rattle.std.specs.Prelude.{None, Bool, true, false, List, [], ◌∷◌, slice_get, length}
 use Rattle.std.proofs.Common.{suc}
-use Rattle.lk_abs.specs.Names.{same_waiter}
-use Rattle.lk_abs.specs.declared.names.Mode.{Mode}
-use Rattle.lk_abs.specs.declared.names.Mode.TheVariants.{Cna}
-use Rattle.lk_abs.specs.declared.names.Waiter.{Waiter}
+use Rattle.lk_names.specs.Names.{same_waiter}
+use Rattle.lk_names.specs.declared.names.Mode.{Mode}
+use Rattle.lk_names.specs.declared.names.Mode.TheVariants.{Cna}
+use Rattle.lk_names.specs.declared.names.Waiter.{Waiter}
 use Rattle.lk_word.specs.declared.spin_word.NodeName.{NodeName}
 use Rattle.lk_rows.specs.declared.parts.Flag.{Flag}
 use Rattle.lk_rows.specs.declared.parts.Flag.TheVariants.{Unset, Go, Second}

@@ -2,9 +2,9 @@
 -- is owed a kick, said of the world alone, without a history of events; and that the node behind
 -- that of a head is used.
 use Rattle.std.specs.Prelude.{◌≡◌, ◌⊎◌, ℕ, Some, true, slice_get}
-use Rattle.lk_abs.specs.History.{LockHistory}
-use Rattle.lk_abs.specs.declared.names.Waiter.{Waiter}
-use Rattle.lk_abs.specs.declared.names.LockName.{LockName}
+use Rattle.lk_names.specs.History.{LockHistory}
+use Rattle.lk_names.specs.declared.names.Waiter.{Waiter}
+use Rattle.lk_names.specs.declared.names.LockName.{LockName}
 use Rattle.lk_word.specs.declared.spin_word.NodeName.{NodeName}
 use Rattle.lk_word.specs.declared.spin_word.Locked.TheVariants.{Free}
 use Rattle.lk_rows.specs.declared.parts.Frame.{Frame}

@@ -1,13 +1,13 @@
 -- How a lock is held by a running processor: a spinlock by one waiter at most, and each from one of
 -- its contexts to another.
 use Rattle.std.specs.Prelude.{◌≡◌, ℕ, Some, None, true, false, [], ◌∷◌, ◌++◌, if◌then◌else◌}
-use Rattle.lk_abs.specs.Names.{same_lock}
-use Rattle.lk_abs.specs.History.{LockHistory, without}
-use Rattle.lk_abs.specs.declared.holder.Manner.{Manner}
-use Rattle.lk_abs.specs.declared.holder.Manner.TheVariants.{Spins}
-use Rattle.lk_abs.specs.declared.names.Kind.TheVariants.{Spin, Rw}
-use Rattle.lk_abs.specs.declared.names.Waiter.{Waiter}
-use Rattle.lk_abs.specs.declared.names.LockName.{LockName}
+use Rattle.lk_names.specs.Names.{same_lock}
+use Rattle.lk_names.specs.History.{LockHistory, without}
+use Rattle.lk_names.specs.declared.holder.Manner.{Manner}
+use Rattle.lk_names.specs.declared.holder.Manner.TheVariants.{Spins}
+use Rattle.lk_names.specs.declared.names.Kind.TheVariants.{Spin, Rw}
+use Rattle.lk_names.specs.declared.names.Waiter.{Waiter}
+use Rattle.lk_names.specs.declared.names.LockName.{LockName}
 use Rattle.lk_rows.specs.Moves.{rw_name}
 use Rattle.lk_law.specs.Agree.{sole}
 use Rattle.lk_law.specs.Phase.Phase.{Idle}

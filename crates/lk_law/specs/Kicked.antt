@@ -2,14 +2,14 @@
 -- while nobody holds its lock is owed a kick.
 use Rattle.std.specs.Prelude.{◌≡◌, ◌<◌, ◌+◌, ℕ, Option, Some, None, true, false, List, [], ◌++◌}
 use Rattle.std.specs.Prelude.{◌∷◌}
-use Rattle.lk_abs.specs.History.{LockHistory, history_of}
-use Rattle.lk_abs.specs.Kicks.{is_kicked, owing, kicks_made}
-use Rattle.lk_abs.specs.Kicks.{sleeps}
-use Rattle.lk_abs.specs.Lawful.{FrontIsOwed}
-use Rattle.lk_abs.specs.declared.names.Waiter.{Waiter}
-use Rattle.lk_abs.specs.declared.names.LockName.{LockName}
-use Rattle.lk_abs.specs.declared.events.Event.{Event}
-use Rattle.lk_abs.specs.declared.events.What.TheVariants.{Wake, Nudge, Int}
+use Rattle.lk_names.specs.History.{LockHistory, history_of}
+use Rattle.lk_names.specs.Kicks.{is_kicked, owing, kicks_made}
+use Rattle.lk_names.specs.Kicks.{sleeps}
+use Rattle.lk_names.specs.Lawful.{FrontIsOwed}
+use Rattle.lk_names.specs.declared.names.Waiter.{Waiter}
+use Rattle.lk_names.specs.declared.names.LockName.{LockName}
+use Rattle.lk_names.specs.declared.events.Event.{Event}
+use Rattle.lk_names.specs.declared.events.What.TheVariants.{Wake, Nudge, Int}
 use Rattle.lk_rows.specs.declared.setup.Op.{Op}
 use Rattle.lk_rows.specs.declared.parts.Frame.{Frame}
 use Rattle.lk_rows.specs.declared.parts.Pc.{Pc}

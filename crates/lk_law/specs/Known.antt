@@ -2,10 +2,10 @@
 -- domain of threads may rest.
 use Rattle.std.specs.Prelude.{◌≤◌, ℕ, Option, ◌≡◌, ◌≢◌, ◌<◌, Some, None, Bool, true, false}
 use Rattle.std.specs.Prelude.{slice_get, is_some}
-use Rattle.lk_abs.specs.History.{LockHistory}
-use Rattle.lk_abs.specs.declared.names.Format.TheVariants.{Two}
-use Rattle.lk_abs.specs.declared.names.Waiter.{Waiter}
-use Rattle.lk_abs.specs.declared.names.LockName.{LockName}
+use Rattle.lk_names.specs.History.{LockHistory}
+use Rattle.lk_names.specs.declared.names.Format.TheVariants.{Two}
+use Rattle.lk_names.specs.declared.names.Waiter.{Waiter}
+use Rattle.lk_names.specs.declared.names.LockName.{LockName}
 use Rattle.lk_word.specs.declared.spin_word.NodeName.{NodeName}
 use Rattle.lk_word.specs.declared.spin_word.Fields.{Fields}
 use Rattle.lk_word.specs.declared.spin_word.Locked.TheVariants.{Free, Held, Slow}

@@ -1,8 +1,8 @@
 -- What is proved of acts and runs of a machine.
 use Rattle.std.specs.Prelude.{◌<◌, ℕ, List, [], ◌∷◌, length}
-use Rattle.lk_abs.specs.Lawful.{IsLawful}
-use Rattle.lk_abs.specs.declared.events.Act.{Act}
-use Rattle.lk_abs.specs.declared.events.Event.{Event}
+use Rattle.lk_names.specs.Lawful.{IsLawful}
+use Rattle.lk_names.specs.declared.events.Act.{Act}
+use Rattle.lk_names.specs.declared.events.Event.{Event}
 use Rattle.lk_rows.specs.declared.setup.Setup.{Setup}
 use Rattle.lk_rows.specs.Machine.{Machine}
 use Rattle.lk_rows.specs.Programs.{IsLawfulSetup}

@@ -1,7 +1,7 @@
 -- Which registers a frame knows at which row, and to which family a row belongs.
 use Rattle.std.specs.Prelude.{◌≡◌, ◌≢◌, ◌&&◌, not, Option, Some, None, Bool, true, false}
 use Rattle.std.specs.Prelude.{is_some, ◌<◌}
-use Rattle.lk_abs.specs.declared.names.Mode.{Mode}
+use Rattle.lk_names.specs.declared.names.Mode.{Mode}
 use Rattle.lk_word.specs.declared.spin_word.NodeName.{NodeName}
 use Rattle.lk_rows.specs.declared.parts.Frame.{Frame}
 use Rattle.lk_rows.specs.declared.parts.Pc.{Pc}

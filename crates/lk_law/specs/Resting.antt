@@ -1,9 +1,9 @@
 -- A world in which nobody is there.
 use Rattle.std.specs.Prelude.{ℕ, ◌<◌, None, false, List}
-use Rattle.lk_abs.specs.History.{no_history}
-use Rattle.lk_abs.specs.declared.names.Format.{Format}
-use Rattle.lk_abs.specs.declared.names.Kind.{Kind}
-use Rattle.lk_abs.specs.declared.names.Mode.{Mode}
+use Rattle.lk_names.specs.History.{no_history}
+use Rattle.lk_names.specs.declared.names.Format.{Format}
+use Rattle.lk_names.specs.declared.names.Kind.{Kind}
+use Rattle.lk_names.specs.declared.names.Mode.{Mode}
 use Rattle.lk_rows.specs.Machine.{rest_node, rest_word, rest_lock}
 use Rattle.lk_law.specs.SoundWorld.{IsSoundWorld}
 use Rattle.lk_law.specs.World.{World}

@@ -1,8 +1,8 @@
 -- What a waiter does for one reader-writer lock, as far as the laws read it: nine phases stand for
 -- the rows of readers and writers, and for those of the wait lock on their way.
 use Rattle.std.specs.Prelude.{Option, Some, Bool, true, false, ◌||◌}
-use Rattle.lk_abs.specs.declared.holder.Manner.{Manner}
-use Rattle.lk_abs.specs.declared.holder.Manner.TheVariants.{Reads}
+use Rattle.lk_names.specs.declared.holder.Manner.{Manner}
+use Rattle.lk_names.specs.declared.holder.Manner.TheVariants.{Reads}
 
 -- what a waiter does for one reader-writer lock
 pub data RwPhase : Type 0 where

@@ -1,11 +1,11 @@
 -- The laws of rows, frames and ends of halts in the layer of spinlocks and wait locks.
 use Rattle.std.specs.Prelude.{◌≡◌, Option, Some, None, true, false, ◌+◌}
-use Rattle.lk_abs.specs.History.{LockHistory}
-use Rattle.lk_abs.specs.Lawful.{Rules}
-use Rattle.lk_abs.specs.declared.names.Waiter.{Waiter}
-use Rattle.lk_abs.specs.declared.names.LockName.{LockName}
-use Rattle.lk_abs.specs.declared.events.Event.{Event}
-use Rattle.lk_abs.specs.declared.events.What.TheVariants.{Wake, Nudge, Int}
+use Rattle.lk_names.specs.History.{LockHistory}
+use Rattle.lk_names.specs.Lawful.{Rules}
+use Rattle.lk_names.specs.declared.names.Waiter.{Waiter}
+use Rattle.lk_names.specs.declared.names.LockName.{LockName}
+use Rattle.lk_names.specs.declared.events.Event.{Event}
+use Rattle.lk_names.specs.declared.events.What.TheVariants.{Wake, Nudge, Int}
 use Rattle.lk_rows.specs.declared.setup.Op.{Op}
 use Rattle.lk_rows.specs.declared.parts.Frame.{Frame}
 use Rattle.lk_rows.specs.declared.parts.Pc.{Pc}

@@ -1,12 +1,12 @@
 -- The laws of every row, of frames between their operations, and of ends of halts, on worlds with
 -- reader-writer locks; and who is owed a kick in them.
 use Rattle.std.specs.Prelude.{◌≡◌, Some, true, false, List, Option, None}
-use Rattle.lk_abs.specs.History.{LockHistory, history_of}
-use Rattle.lk_abs.specs.Lawful.{Rules, FrontIsOwed}
-use Rattle.lk_abs.specs.declared.names.Waiter.{Waiter}
-use Rattle.lk_abs.specs.declared.names.LockName.{LockName}
-use Rattle.lk_abs.specs.declared.events.Event.{Event}
-use Rattle.lk_abs.specs.declared.events.What.TheVariants.{Wake, Nudge, Int}
+use Rattle.lk_names.specs.History.{LockHistory, history_of}
+use Rattle.lk_names.specs.Lawful.{Rules, FrontIsOwed}
+use Rattle.lk_names.specs.declared.names.Waiter.{Waiter}
+use Rattle.lk_names.specs.declared.names.LockName.{LockName}
+use Rattle.lk_names.specs.declared.events.Event.{Event}
+use Rattle.lk_names.specs.declared.events.What.TheVariants.{Wake, Nudge, Int}
 use Rattle.lk_rows.specs.Acts.{stands_halting}
 use Rattle.lk_rows.specs.declared.parts.Frame.{Frame}
 use Rattle.lk_rows.specs.declared.parts.Pc.{Pc}

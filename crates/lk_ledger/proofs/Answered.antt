@@ -1,7 +1,7 @@
 -- What the answers to a job file mean, and what they exclude, since a text says one thing.
 use Rattle.std.proofs.Common.{◌≡◌, ◌⊎◌, ℕ, List, Option, Some, None, Result, Ok, Err, IfSome, IsOkUnless, IsErrAnd, refl, sym, ap, ◌∙◌, inl, inr, arith}
-use Rattle.lk_abs.specs.Workload.{Workload, workload_of}
-use Rattle.lk_abs.specs.declared.job_file.JobFile.{JobFile}
+use Rattle.lk_names.specs.Workload.{Workload, workload_of}
+use Rattle.lk_names.specs.declared.job_file.JobFile.{JobFile}
 use Rattle.lk_text.specs.Causes.{Rose}
 use Rattle.lk_forms.specs.declared.answers.LineRefusal.{LineRefusal}
 use Rattle.lk_forms.specs.declared.answers.LineRefusal.TheVariants.{Bad, Limit}

@@ -1,9 +1,9 @@
 -- What a ledger comes to.
 use Rattle.std.proofs.Common.{◌<◌, ◌^◌, ℕ, List, length, arith}
-use Rattle.lk_abs.specs.declared.ledger.Entry.{Entry}
-use Rattle.lk_abs.specs.declared.ledger.Seen.{Seen}
-use Rattle.lk_abs.specs.Workload.{Workload, IsLawful}
-use Rattle.lk_abs.specs.Outcome.{IsOutcome}
+use Rattle.lk_names.specs.declared.ledger.Entry.{Entry}
+use Rattle.lk_names.specs.declared.ledger.Seen.{Seen}
+use Rattle.lk_names.specs.Workload.{Workload, IsLawful}
+use Rattle.lk_names.specs.Outcome.{IsOutcome}
 use Rattle.lk_domain.proofs.journals.Loads.{entries_long}
 
 -- there are few closing balances

@@ -2,10 +2,10 @@
 -- after it.
 use Rattle.std.specs.Prelude.{ℕ, List, Option}
 use Rattle.std.specs.Io.KnownBytes.{Appends, IsAtEnd, Keeps}
-use Rattle.lk_abs.specs.declared.ledger.Entry.{Entry}
-use Rattle.lk_abs.specs.declared.ledger.Seen.{Seen}
-use Rattle.lk_abs.specs.Workload.{Workload}
-use Rattle.lk_abs.specs.Outcome.{IsOutcome}
+use Rattle.lk_names.specs.declared.ledger.Entry.{Entry}
+use Rattle.lk_names.specs.declared.ledger.Seen.{Seen}
+use Rattle.lk_names.specs.Workload.{Workload}
+use Rattle.lk_names.specs.Outcome.{IsOutcome}
 use Rattle.lk_text.specs.Causes.{Rose}
 use Rattle.lk_text.specs.Bytes.{AppendsFront}
 use Rattle.lk_forms.specs.declared.answers.LineRefusal.{LineRefusal}

@@ -2,8 +2,8 @@
 -- its count of faults.
 use Rattle.std.specs.Prelude.{◌≡◌, ◌++◌, ℕ, List, [], Option, Result, Ok, Err, IfSome, ⊤, refl}
 use Rattle.std.specs.Io.KnownBytes.{IsAtEnd}
-use Rattle.lk_abs.specs.Workload.{Workload, workload_of}
-use Rattle.lk_abs.specs.declared.job_file.JobFile.{JobFile}
+use Rattle.lk_names.specs.Workload.{Workload, workload_of}
+use Rattle.lk_names.specs.declared.job_file.JobFile.{JobFile}
 use Rattle.lk_text.specs.Causes.{Rose}
 use Rattle.lk_forms.specs.declared.answers.LineRefusal.{LineRefusal}
 use Rattle.lk_forms.specs.declared.answers.LineRefusal.TheVariants.{Bad, Limit}

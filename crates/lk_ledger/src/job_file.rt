@@ -1,6 +1,6 @@
 // A job file, from bytes.
 ghost use Rattle.std.specs.Prelude.{◌≡◌, ◌⊎◌, ℕ, List, Some, Ok, Err, IfOk, IsOkUnless, IsErrAnd};
-ghost use Rattle.lk_abs.specs.Workload.{Workload, IsLawful, workload_of};
+ghost use Rattle.lk_names.specs.Workload.{Workload, IsLawful, workload_of};
 ghost use Rattle.lk_text.specs.Causes.{Rose};
 ghost use Rattle.lk_forms.specs.declared.answers.LineRefusal.{LineRefusal};
 ghost use Rattle.lk_stream.specs.Outcome.{refused_fault};
@@ -9,7 +9,7 @@ ghost use Rattle.lk_job_forms.specs.JobFile.{job_file};
 ghost use Rattle.lk_ledger.specs.Reading.{Reads};
 
 use crate::script::JobScript;
-use lk_abs::JobFile;
+use lk_names::JobFile;
 use lk_stream::{ReplayFault, follow};
 use lk_text::{NullSink, Source};
 use std::alloc::Global;

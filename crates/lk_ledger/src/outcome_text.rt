@@ -6,8 +6,8 @@ ghost use Rattle.lk_text.specs.Bytes.{AppendsFront, Conveys};
 ghost use Rattle.lk_text.specs.Block.{waiting};
 ghost use Rattle.lk_job_forms.specs.Texts.{entry_lines_from, seen_lines, balance_lines_from, total_text, outcome_text};
 
-use lk_abs::{Entry, List, Seen};
 use lk_job_forms::{balance_line, entry_line, seen_line, total_line};
+use lk_names::{Entry, List, Seen};
 use lk_text::{Block, Sink, WriteFault};
 
 // Writes the lines of the journal, whose entries are numbered from 1.

@@ -1,6 +1,6 @@
 // The word `ledger`, from bytes to bytes.
 ghost use Rattle.std.specs.Prelude.{◌≡◌, ◌⊎◌, ℕ, List, Some, Ok, Err, IfOk, IfErr, IsOkUnless, IsErrAnd};
-ghost use Rattle.lk_abs.specs.Workload.{Workload};
+ghost use Rattle.lk_names.specs.Workload.{Workload};
 ghost use Rattle.lk_text.specs.Causes.{Rose};
 ghost use Rattle.lk_forms.specs.declared.answers.LineRefusal.{LineRefusal};
 ghost use Rattle.lk_stream.specs.Outside.{outside};

@@ -1,12 +1,12 @@
 // The script of a job file: its lines are told to a reader, and nothing is written.
 ghost use Rattle.std.specs.Prelude.{◌≡◌, ◌≤◌, ◌++◌, ℕ, List, Ok, Err, Some, None, Option, IfOk, IfErr, OnOk, OnErr};
-ghost use Rattle.lk_abs.specs.Workload.{IsLawful, workload_of};
+ghost use Rattle.lk_names.specs.Workload.{IsLawful, workload_of};
 ghost use Rattle.lk_job_forms.specs.Grammar.{nothing_read, has_end};
 ghost use Rattle.lk_job_forms.specs.Reader.{reading};
 
-use lk_abs::{JobFile, Memory};
 use lk_forms::Fault;
 use lk_job_forms::JobReader;
+use lk_names::{JobFile, Memory};
 use lk_stream::{Script, Stop};
 use lk_text::{Block, Sink, WriteFault};
 use std::alloc::Global;

@@ -6,7 +6,7 @@ use Rattle.lk_cell.specs.Latched.{IsKey}
 use Rattle.lk_domain.specs.Values.{Key, Slot, Fits, AreLaid, id_of, keys_of, lodged}
 use Rattle.lk_domain.specs.declared.plan.Plan.{Plan}
 use Rattle.lk_domain.specs.declared.slot.Stowed.TheVariants.{CellKey}
-use Rattle.lk_abs.specs.declared.names.Kind.TheVariants.{Rw}
+use Rattle.lk_names.specs.declared.names.Kind.TheVariants.{Rw}
 use Rattle.lk_lock.specs.Ended.{HasAllKeys, HasKeyOf}
 use Rattle.lk_lock.specs.Standing.{IsSharedUnder}
 use Rattle.lk_lock.specs.declared.keys.Keys.{Keys}

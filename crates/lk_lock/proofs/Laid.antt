@@ -3,8 +3,8 @@ use Rattle.std.proofs.Common.{◌≡◌, ℕ, zero, suc, ◌+◌, ◌*◌, ◌<�
 use Rattle.std.specs.Prelude.{slice_get, slice_set, unwrap_or}
 use Rattle.std.proofs.Math.Nat.{suc-mul, zero-add}
 use Rattle.atomic_table.specs.Seated.{TableId}
-use Rattle.lk_abs.specs.ListOf.{ListOf}
-use Rattle.lk_abs.specs.declared.names.Kind.TheVariants.{Rw}
+use Rattle.lk_names.specs.ListOf.{ListOf}
+use Rattle.lk_names.specs.declared.names.Kind.TheVariants.{Rw}
 use Rattle.lk_cell.specs.Latched.{IsKey}
 use Rattle.lk_cell.specs.declared.cell.KeyCell.{KeyCell}
 use Rattle.lk_domain.specs.Plans.{locks_of}

@@ -3,10 +3,10 @@ use Rattle.std.proofs.Common.{◌≡◌, ℕ, ◌+◌, ◌*◌, ◌<◌, List, [
 use Rattle.std.specs.Prelude.{slice_get}
 use Rattle.std.proofs.lemmas.Option.{slice_get_within, get_or_from_slice_get}
 use Rattle.atomic_table.specs.Seated.{TableId}
-use Rattle.lk_abs.proofs.ByIndex.{get-append_new, get-append_old}
-use Rattle.lk_abs.specs.ListOf.{ListOf}
-use Rattle.lk_abs.specs.declared.names.Kind.{Kind}
-use Rattle.lk_abs.specs.declared.names.Kind.TheVariants.{Rw, Spin}
+use Rattle.lk_names.proofs.ByIndex.{get-append_new, get-append_old}
+use Rattle.lk_names.specs.ListOf.{ListOf}
+use Rattle.lk_names.specs.declared.names.Kind.{Kind}
+use Rattle.lk_names.specs.declared.names.Kind.TheVariants.{Rw, Spin}
 use Rattle.lk_domain.specs.Plans.{cpus_of, locks_of, kind_at}
 use Rattle.lk_domain.specs.Values.{Key, cell_of, id_of, keys_of}
 use Rattle.lk_domain.specs.declared.plan.Plan.{Plan}

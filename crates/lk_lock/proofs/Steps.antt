@@ -1,8 +1,8 @@
 -- How a processor stands once it has taken a lock, and once it has freed it; and in between, with the
 -- value of the lock out, and home again.
 use Rattle.std.proofs.Common.{◌≡◌, ℕ, ◌+◌, ◌-◌, ◌<◌, List, [], ◌∷◌, ◌++◌, length, true, false, refl, sym, ap, ◌∙◌, subst, Some, arith, length-append}
-use Rattle.lk_abs.specs.declared.holder.Manner.{Manner}
-use Rattle.lk_abs.specs.declared.holder.Manner.TheVariants.{Spins}
+use Rattle.lk_names.specs.declared.holder.Manner.{Manner}
+use Rattle.lk_names.specs.declared.holder.Manner.TheVariants.{Spins}
 use Rattle.lk_law.specs.Agree.{halts}
 use Rattle.lk_rows.specs.declared.setup.Verb.{Verb}
 use Rattle.lk_domain.specs.Calls.{Terms, Mark, Running, Hold, hold, Calls, holds_in, hold_in, way_in, lock_name}
@@ -18,7 +18,7 @@ use Rattle.lk_run.specs.Entering.{HasEntered, HasLeft}
 use Rattle.lk_rows.specs.declared.parts.Pc.{Pc}
 use Rattle.lk_lock.specs.Standing.{HasBeenIn, HasComeIn, IsAsBefore, IsHolding, IsInside, IsReady, holds_of, home_calls}
 use Rattle.lk_lock.specs.Turns.{HasLocked}
-use Rattle.lk_abs.specs.Names.{same_lock}
+use Rattle.lk_names.specs.Names.{same_lock}
 use Rattle.lk_law.proofs.common.Puts.{if-true}
 use Rattle.lk_law.proofs.common.Sames.{same_lock-self}
 use Rattle.lk_lock.proofs.Marks.{found, held, marked, out_home}

@@ -2,7 +2,7 @@
 -- for each processor, where the lock has copies.
 use Rattle.std.specs.Prelude.{◌≡◌, ℕ, zero, suc, List, [], ◌∷◌, ◌++◌, Option, Some, false, ⊤, slice_get}
 use Rattle.atomic_table.specs.Seated.{TableId}
-use Rattle.lk_abs.specs.ListOf.{ListOf}
+use Rattle.lk_names.specs.ListOf.{ListOf}
 use Rattle.lk_cell.specs.Latched.{IsKey}
 use Rattle.lk_cell.specs.declared.cell.KeyCell.{KeyCell}
 use Rattle.lk_domain.specs.Values.{Key}

@@ -1,7 +1,7 @@
 -- What opens the locks of a closed domain.
 use Rattle.std.specs.Prelude.{◌≡◌, ◌≢◌, ℕ, Some, slice_get}
 use Rattle.atomic_table.specs.Seated.{TableId}
-use Rattle.lk_abs.specs.declared.names.Kind.{Kind}
+use Rattle.lk_names.specs.declared.names.Kind.{Kind}
 use Rattle.lk_cell.specs.Latched.{IsKey}
 use Rattle.lk_domain.specs.Values.{Key}
 use Rattle.lk_domain.specs.declared.plan.Plan.{Plan}

@@ -2,11 +2,11 @@
 use Rattle.std.specs.Prelude.{◌≡◌, ℕ, ◌+◌, All, Some, List, [], ◌∷◌, length, slice_get, true, if◌then◌else◌}
 use Rattle.lk_law.specs.Agree.{halts}
 use Rattle.atomic_table.specs.Seated.{TableId}
-use Rattle.lk_abs.specs.ListOf.{ListOf}
-use Rattle.lk_abs.specs.declared.names.Format.TheVariants.{One}
-use Rattle.lk_abs.specs.declared.names.Kind.{Kind}
-use Rattle.lk_abs.specs.declared.names.Kind.TheVariants.{Rw, Spin}
-use Rattle.lk_abs.specs.declared.names.Mode.{Mode}
+use Rattle.lk_names.specs.ListOf.{ListOf}
+use Rattle.lk_names.specs.declared.names.Format.TheVariants.{One}
+use Rattle.lk_names.specs.declared.names.Kind.{Kind}
+use Rattle.lk_names.specs.declared.names.Kind.TheVariants.{Rw, Spin}
+use Rattle.lk_names.specs.declared.names.Mode.{Mode}
 use Rattle.lk_domain.specs.Plans.{accounts_of, locks_of}
 use Rattle.lk_domain.specs.Values.{Key}
 use Rattle.lk_domain.specs.declared.plan.Plan.{Plan}

@@ -9,9 +9,9 @@ ghost use Rattle.lk_lock.specs.Standing.{AllRest};
 use crate::locks::{Rw, Spin};
 use crate::opening::Open;
 use crate::shared::Shared;
-use lk_abs::List;
 use lk_cell::Key;
 use lk_domain::{CloseBack, LockId, close};
+use lk_names::List;
 use std::alloc::Global;
 
 /// What opens the locks of a closed domain: each lock gives its value for it.

@@ -4,8 +4,8 @@ ghost use Rattle.std.specs.Prelude.{◌≡◌, ◌+◌, ◌≤◌, ◌++◌, IfO
 ghost use Rattle.lk_domain.specs.declared.plan.TheConstants.{MOST_CPUS, MOST_LOCKS};
 ghost use Rattle.lk_lock.specs.Cells.{AllShut, all_behind, behind, firsts, laid};
 
-use lk_abs::{List, Memory};
 use lk_cell::Key;
+use lk_names::{List, Memory};
 use std::alloc::Global;
 
 // Takes the first key of a lock, if one is left.

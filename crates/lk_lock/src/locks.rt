@@ -1,12 +1,12 @@
 // The locks of a program, each with its value.
 ghost use Rattle.std.specs.Prelude.{◌≡◌, ◌+◌, ◌<◌, ◌≤◌, [], ◌∷◌, ◌++◌, IfOk, length, false, true};
-ghost use Rattle.lk_abs.specs.declared.names.Kind.TheVariants.{Rw as shared, Spin as spinning};
+ghost use Rattle.lk_names.specs.declared.names.Kind.TheVariants.{Rw as shared, Spin as spinning};
 ghost use Rattle.lk_domain.specs.declared.plan.TheConstants.{MOST_CPUS, MOST_LOCKS};
 ghost use Rattle.lk_lock.specs.Cells.{AllShut, EachShut};
 
-use lk_abs::{Kind, List, Memory};
 use lk_cell::{Any, Key, KeyCell};
 use lk_domain::{LockId, MOST_LOCKS};
+use lk_names::{Kind, List, Memory};
 use std::alloc::Global;
 
 /// A value under a spinlock.

@@ -7,8 +7,8 @@ ghost use Rattle.lk_lock.specs.Standing.{AllRest};
 
 use crate::laying::laid_out;
 use crate::locks::Locks;
-use lk_abs::{Format, List, Memory, Mode, Topology};
 use lk_domain::{Cpu, Domain, Plan};
+use lk_names::{Format, List, Memory, Mode, Topology};
 use std::alloc::Global;
 use std::snapshot::Snapshot;
 

@@ -1,8 +1,8 @@
 // A processor of a domain, as a thread uses it.
 ghost use Rattle.std.specs.Prelude.{◌≡◌, IfSome, MatchOption, false};
 ghost use Rattle.std.specs.Fn.{FnOnceReturnsAtMut};
-ghost use Rattle.lk_abs.specs.declared.holder.Manner.TheVariants.{Spins};
-ghost use Rattle.lk_abs.specs.declared.names.Kind.TheVariants.{Spin as spinning, Rw as shared};
+ghost use Rattle.lk_names.specs.declared.holder.Manner.TheVariants.{Spins};
+ghost use Rattle.lk_names.specs.declared.names.Kind.TheVariants.{Spin as spinning, Rw as shared};
 ghost use Rattle.lk_domain.specs.Calls.{holds_in, terms_of};
 ghost use Rattle.lk_domain.specs.Paths.{HasMissed};
 ghost use Rattle.lk_domain.specs.Seats.{calls_of};

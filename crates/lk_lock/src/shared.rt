@@ -15,9 +15,9 @@ use crate::reading::{come_in, go_out};
 use crate::seat::Seat;
 use crate::working::{set_copies, work_on_copy, work_on_own};
 use crate::writing::{enter, leave};
-use lk_abs::{Kind, List, Memory};
 use lk_cell::{Any, Key, KeyCell};
 use lk_domain::LockId;
+use lk_names::{Kind, List, Memory};
 use std::alloc::Global;
 use std::sync::Wait;
 

@@ -1,7 +1,7 @@
 // Work on the value of a lock that is held. The value stays where it lies.
 ghost use Rattle.std.specs.Prelude.{◌≡◌, ◌+◌, ◌<◌, Some, true};
 ghost use Rattle.std.specs.Fn.{FnOnceReturnsAtMut};
-ghost use Rattle.lk_abs.specs.declared.holder.Manner.TheVariants.{Writes};
+ghost use Rattle.lk_names.specs.declared.holder.Manner.TheVariants.{Writes};
 ghost use Rattle.lk_cell.specs.Latched.{IsKey};
 ghost use Rattle.lk_domain.specs.Plans.{cpus_of, locks_of};
 ghost use Rattle.lk_domain.specs.Seats.{IsStill, view_of};

@@ -1,8 +1,8 @@
 // The calls of a writer on a reader-writer lock, by a processor that is in no call. No domain whose waiters
 // halt has one.
 ghost use Rattle.std.specs.Prelude.{◌≡◌, true, false};
-ghost use Rattle.lk_abs.specs.declared.holder.Manner.TheVariants.{Writes};
-ghost use Rattle.lk_abs.specs.declared.names.Kind.TheVariants.{Rw};
+ghost use Rattle.lk_names.specs.declared.holder.Manner.TheVariants.{Writes};
+ghost use Rattle.lk_names.specs.declared.names.Kind.TheVariants.{Rw};
 ghost use Rattle.lk_domain.specs.Calls.{holds_in};
 ghost use Rattle.lk_domain.specs.declared.cpu.Cpu.{Cpu};
 ghost use Rattle.lk_lock.specs.Standing.{EntersLock, EntersOnce, IsHolding, IsOfKind, IsReady, LeavesLock, StaysOut, holds_of};

@@ -6,7 +6,7 @@
 
 mod turns;
 
-use lk_abs::{Memory, Mode};
+use lk_names::{Memory, Mode};
 use lk_ranks::Ranks;
 use std::io;
 use std::sync::Wait;

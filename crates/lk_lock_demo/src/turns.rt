@@ -1,11 +1,11 @@
 // What each thread does: it draws a number under one lock, inside the other, under which it puts it into the
 // queue.
 ghost use Rattle.std.specs.Prelude.{◌≡◌, ◌<◌, length};
-ghost use Rattle.lk_abs.specs.declared.names.Kind.TheVariants.{Spin as spinning};
+ghost use Rattle.lk_names.specs.declared.names.Kind.TheVariants.{Spin as spinning};
 ghost use Rattle.lk_lock.specs.Standing.{AllRest, IsUnder, Rests};
 
-use lk_abs::List;
 use lk_lock::{Cpu, Domain};
+use lk_names::List;
 use lk_ranks::RankedSpin;
 use std::sync::Wait;
 use std::thread;

@@ -1,11 +1,11 @@
 // What no clause says, in each family: that no addition to a value under a spinlock is lost, and that the
 // value comes back as it was left.
 ghost use Rattle.std.specs.Prelude.{◌≡◌, length};
-ghost use Rattle.lk_abs.specs.declared.names.Kind.TheVariants.{Spin as spinning};
+ghost use Rattle.lk_names.specs.declared.names.Kind.TheVariants.{Spin as spinning};
 ghost use Rattle.lk_lock.specs.Standing.{AllRest, IsUnder, Rests};
 
-use lk_abs::{List, Memory, Mode};
 use lk_lock::{Cpu, Domain, Locks, Seat, Spin};
+use lk_names::{List, Memory, Mode};
 use std::sync::Wait;
 use std::thread;
 use std::thread::Threads;

@@ -1,8 +1,8 @@
 // That the domain of each family is the one that was asked for, and that its locks serve.
 
 use crate::processors::last;
-use lk_abs::{Format, List, Memory, Mode, Topology};
 use lk_lock::{Domain, Locks, Open, Seat};
+use lk_names::{Format, List, Memory, Mode, Topology};
 use std::sync::Wait;
 
 // How many turns a waiter of a paravirtual lock spins.

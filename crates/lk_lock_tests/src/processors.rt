@@ -2,8 +2,8 @@
 ghost use Rattle.std.specs.Prelude.{◌≡◌, ◌+◌, ◌<◌, length};
 ghost use Rattle.lk_lock.specs.Standing.{AllRest, Rests};
 
-use lk_abs::List;
 use lk_lock::{Cpu, Domain};
+use lk_names::List;
 
 /// The last processor of a domain.
 pub fn last(domain: &Domain, cpus: &mut List<Cpu>) -> Cpu

@@ -1,7 +1,7 @@
 // What no clause says: that a try which fails leaves the value alone.
 use crate::processors::last;
-use lk_abs::{Memory, Mode};
 use lk_lock::{Held, Locks, Open, Seat};
+use lk_names::{Memory, Mode};
 
 #[test]
 fn try_to_write_fails_while_another_writes(rt: HostRuntime) -> Result<(), Memory> {

@@ -1,12 +1,12 @@
 // What no clause says: that a value is the one that was left, that a try which fails calls nothing,
 // and what is shown of a lock.
 ghost use Rattle.std.specs.Prelude.{◌≡◌};
-ghost use Rattle.lk_abs.specs.declared.names.Kind.TheVariants.{Rw as shared, Spin as spinning};
+ghost use Rattle.lk_names.specs.declared.names.Kind.TheVariants.{Rw as shared, Spin as spinning};
 ghost use Rattle.lk_lock.specs.Standing.{IsUnder, Rests};
 
 use crate::processors::last;
-use lk_abs::{Memory, Mode};
 use lk_lock::{Cpu, Domain, Held, Locks, Open, Rw, Seat, Spin};
+use lk_names::{Memory, Mode};
 use std::alloc::AllocError;
 use std::sync::Wait;
 

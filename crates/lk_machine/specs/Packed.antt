@@ -1,6 +1,6 @@
 -- What stands in the packed words of the machine.
 use Rattle.std.specs.Prelude.{◌≡◌, ℕ, true, List, is_some, unwrap_or, slice_index_or, slice_set, if◌then◌else◌}
-use Rattle.lk_abs.specs.declared.names.LockName.{LockName}
+use Rattle.lk_names.specs.declared.names.LockName.{LockName}
 use Rattle.lk_word.specs.declared.spin_word.Layout.{Layout}
 use Rattle.lk_word.specs.declared.spin_word.Fields.{Fields}
 use Rattle.lk_word.specs.declared.rw_word.RwFields.{RwFields}

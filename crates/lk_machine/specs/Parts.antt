@@ -2,7 +2,7 @@
 use Rattle.std.specs.Prelude.{◌≡◌, ◌*◌, ◌-◌, ℕ, ◌==◌, ◌&&◌, ◌||◌, not, Bool, List, Option, None, is_some}
 use Rattle.std.specs.Prelude.{length, slice_get, unwrap_or, if◌then◌else◌}
 use Rattle.std.specs.Int.{IsNextPowerOfTwo}
-use Rattle.lk_abs.specs.declared.names.LockName.{LockName}
+use Rattle.lk_names.specs.declared.names.LockName.{LockName}
 use Rattle.lk_word.specs.declared.spin_word.NodeName.{NodeName}
 use Rattle.lk_word.specs.declared.spin_word.Layout.{Layout}
 use Rattle.lk_rows.specs.Machine.{Machine, LockState, CpuState, rest_frame}

@@ -9,7 +9,7 @@ ghost use Rattle.lk_rows.specs.Layouts.{layout_of};
 ghost use Rattle.lk_machine.specs.Hashed.{entries_named};
 ghost use Rattle.lk_rows.specs.Programs.{HasPrograms, handlers_of};
 ghost use Rattle.lk_rows.specs.Moves.{is_node, context_of, waiter_of};
-ghost use Rattle.lk_abs.specs.Lawful.{is_local, same_socket, stays};
+ghost use Rattle.lk_names.specs.Lawful.{is_local, same_socket, stays};
 
 mod fields;
 mod hash;
@@ -23,8 +23,8 @@ mod shared;
 mod top;
 mod words;
 
-use lk_abs::{Format, LockName, Mode, Waiter};
 use lk_hash::LockHash;
+use lk_names::{Format, LockName, Mode, Waiter};
 use lk_rows::{Counts, Frame, Node, Pc, Setup};
 use lk_word::{Fields, NodeName, RwFields};
 pub use shared::Shared;

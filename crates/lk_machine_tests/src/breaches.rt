@@ -1,7 +1,7 @@
 // Breaches of lock 0 in words.
 
 use crate::events::{number_of, waiter_of};
-use lk_abs::{Breach, LockName, Waiter};
+use lk_names::{Breach, LockName, Waiter};
 use std::process::Abort;
 
 const LOCK: LockName = LockName {

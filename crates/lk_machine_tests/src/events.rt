@@ -1,6 +1,6 @@
 // Events in the words of a transcript, without the number of the act.
 
-use lk_abs::{Event, How, LockName, RwHow, Waiter, What};
+use lk_names::{Event, How, LockName, RwHow, Waiter, What};
 
 /// The number of a word.
 pub fn number_of(word: &str) -> Option<u32> {

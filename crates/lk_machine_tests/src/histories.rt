@@ -8,7 +8,8 @@ mod queue;
 mod rw;
 
 use crate::judging::judge_all;
-use lk_abs::{Format, Kind, Mode, judge_is_exact};
+use lk_abs::judge_is_exact;
+use lk_names::{Format, Kind, Mode};
 use std::test::Fail;
 
 #[test]

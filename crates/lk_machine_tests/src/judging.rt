@@ -5,7 +5,8 @@ ghost use Rattle.lk_abs.specs.Judge.{JudgeState, taken_by, IsInRange};
 
 use crate::breaches::wanted_breach;
 use crate::events::event_of;
-use lk_abs::{Breach, Event, Format, Judge, Kind, List, Memory, Mode, Topology, What};
+use lk_abs::Judge;
+use lk_names::{Breach, Event, Format, Kind, List, Memory, Mode, Topology, What};
 use std::alloc::Global;
 use std::process::Abort;
 use std::test::Fail;

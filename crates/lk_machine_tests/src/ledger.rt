@@ -1,7 +1,7 @@
 // Jobs on the balances of a ledger.
-ghost use Rattle.lk_abs.specs.Jobs.{IsAmong};
+ghost use Rattle.lk_names.specs.Jobs.{IsAmong};
 
-use lk_abs::{Job, List, Reply, apply};
+use lk_names::{Job, List, Reply, apply};
 use std::process::Abort;
 use std::test::Fail;
 

@@ -1,6 +1,6 @@
 // Lists in memory that was taken at their start.
 
-use lk_abs::List;
+use lk_names::List;
 use std::test::Fail;
 
 #[test]

@@ -4,8 +4,8 @@ ghost use Rattle.std.specs.Prelude.{◌≡◌, [], ◌∷◌, IfOk, length};
 ghost use Rattle.lk_rows.specs.Machine.{HasTop};
 ghost use Rattle.lk_rows.specs.Programs.{HasPrograms, handlers_of};
 
-use lk_abs::{Format, Kind, List, LockName, Memory, Mode, Topology};
 use lk_machine::Machine;
+use lk_names::{Format, Kind, List, LockName, Memory, Mode, Topology};
 use lk_rows::{Counts, Op, Pc, Setup, Verb};
 use lk_word::{Fields, Locked, NodeName, RwFields};
 use std::alloc::Global;

@@ -5,7 +5,8 @@ ghost use Rattle.lk_abs.specs.Judge.{taken_by};
 
 use crate::events::waiter_of;
 use crate::judging::{first_breach, judge};
-use lk_abs::{Format, Judge, Kind, Lists, LockName, Mode, Waiter};
+use lk_abs::Judge;
+use lk_names::{Format, Kind, Lists, LockName, Mode, Waiter};
 use std::process::Abort;
 use std::test::Fail;
 

@@ -3,8 +3,8 @@ use Rattle.std.proofs.Common.{◌≡◌, ◌≢◌, ◌<◌, ◌≤◌, ◌+◌,
 use Rattle.std.specs.Prelude.{slice_get, is_some}
 use Rattle.std.proofs.lemmas.Bool.{cases_lt, ne_eqb}
 use Rattle.std.proofs.lemmas.Option.{none-some, same_Some, slice_get_within}
-use Rattle.lk_abs.specs.declared.holder.Manner.{Manner}
-use Rattle.lk_abs.specs.declared.names.Kind.{Kind}
+use Rattle.lk_names.specs.declared.holder.Manner.{Manner}
+use Rattle.lk_names.specs.declared.names.Kind.{Kind}
 use Rattle.lk_rows.specs.declared.setup.Op.{Op}
 use Rattle.lk_rows.specs.declared.setup.Verb.TheVariants.{Read}
 use Rattle.lk_rows.specs.Programs.{IsLawfulProgram, way_at, way_from}

@@ -1,14 +1,14 @@
 // Whether ranks are in order, which is all that the theorems ask of the programs.
 
 ghost use Rattle.std.specs.Prelude.{◌≡◌, ◌⊎◌, ◌+◌, ◌<◌, ◌≤◌, ℕ, Option, None, is_some, true, length, slice_get};
-ghost use Rattle.lk_abs.specs.declared.holder.Manner.{Manner};
+ghost use Rattle.lk_names.specs.declared.holder.Manner.{Manner};
 ghost use Rattle.lk_rows.specs.declared.setup.Verb.TheVariants.{Read};
 ghost use Rattle.lk_rows.specs.Programs.{HasPrograms, IsLawfulSetup, handlers_of, op_way, program_at, way_after};
 ghost use Rattle.lk_progress.specs.Ordered.{IsOrdered, only_reads, waits_for};
 ghost use Rattle.lk_progress.specs.Runs.{HasRoom};
 ghost use Rattle.lk_order.specs.Checked.{rank_in, Nests, ReadsOnly, RanksAbove, IsAbove, AllAbove, ProgramNests, ProgramAbove, IsInOrder};
 
-use lk_abs::{List, Mode};
+use lk_names::{List, Mode};
 use lk_rows::{Op, Setup, Verb};
 
 /// A rank is below this bound, which is the most locks of a setup.

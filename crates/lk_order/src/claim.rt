@@ -9,7 +9,7 @@ ghost use Rattle.lk_order.specs.Checked.{rank_in};
 ghost use Rattle.lk_order.specs.Claims.{CalmSchedulesFinish, NeverDeadlocks, FairSchedulesFinish};
 
 use crate::check::{check_ranks, crowded};
-use lk_abs::Mode;
+use lk_names::Mode;
 use lk_progress::{fair_runs_finish, ordered_runs_go_on};
 use lk_rows::Setup;
 

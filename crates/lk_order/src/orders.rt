@@ -5,7 +5,7 @@ ghost use Rattle.std.specs.Prelude.{◌≤◌, ◌<◌, length};
 ghost use Rattle.lk_rows.specs.Programs.{HasPrograms, IsLawfulSetup, handlers_of};
 
 use crate::check::{MAX_RANKS, held_behind, is_exempt, programs_of, rank_of, waits_for};
-use lk_abs::{List, Memory};
+use lk_names::{List, Memory};
 use lk_rows::{Op, Setup, Verb};
 use std::alloc::Global;
 

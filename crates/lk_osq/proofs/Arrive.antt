@@ -7,8 +7,8 @@ use Rattle.lk_osq.specs.declared.nodes.Node.{Node}
 use Rattle.lk_osq.specs.Queue.{Pair, OsqQueueAgrees, Moves}
 use Rattle.lk_osq.proofs.Cases.{cpu_cases}
 use Rattle.lk_osq.proofs.Links.{pair_same}
-use Rattle.lk_abs.proofs.ByIndex.{get-append, get-append_old, get-append_new, get-append_none}
-use Rattle.lk_abs.proofs.ByIndex.{get-append_last, get-append_two, get_cases, last_cases}
+use Rattle.lk_names.proofs.ByIndex.{get-append, get-append_old, get-append_new, get-append_none}
+use Rattle.lk_names.proofs.ByIndex.{get-append_last, get-append_two, get_cases, last_cases}
 
 -- O2 behind another
 module _ {tail : Option ℕ} {phase phase' : ℕ → Phase} {node : ℕ → Node} {main : List ℕ} {w a : ℕ}

@@ -21,7 +21,7 @@ use Rattle.lk_osq.proofs.Leave.{hands-second, hands-waits}
 use Rattle.lk_osq.proofs.Unlink.{queue_unlinks}
 use Rattle.lk_osq.proofs.Tells.{without_drops, without_first, without_later, behind_drops}
 use Rattle.lk_osq.proofs.Tells.{first_drops, first_others, empty_list}
-use Rattle.lk_abs.proofs.ByIndex.{get-append_old}
+use Rattle.lk_names.proofs.ByIndex.{get-append_old}
 
 -- no event: who holds the lock and to whom it is handed stays
 pub front_stays : {phase phase' : ℕ → Phase} {t : Told}

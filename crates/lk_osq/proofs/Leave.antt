@@ -8,7 +8,7 @@ use Rattle.lk_osq.specs.Queue.{Pair, OsqQueueAgrees, Moves}
 use Rattle.lk_osq.proofs.Cases.{cpu_cases}
 use Rattle.lk_osq.proofs.Links.{pair_same}
 use Rattle.lk_osq.proofs.Turn.{leads_first}
-use Rattle.lk_abs.proofs.ByIndex.{get_cases, last_cases, get-none_up, get-some_down}
+use Rattle.lk_names.proofs.ByIndex.{get_cases, last_cases, get-none_up, get-some_down}
 
 -- who is the tail stands last
 pub tail_last : {tail : Option ℕ} {phase : ℕ → Phase} {node : ℕ → Node} {main : List ℕ}

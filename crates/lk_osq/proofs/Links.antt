@@ -7,7 +7,7 @@ use Rattle.lk_osq.specs.declared.nodes.Node.{Node}
 use Rattle.lk_osq.specs.Queue.{Pair, OsqQueueAgrees, Moves}
 use Rattle.lk_osq.proofs.Cases.{cpu_cases}
 use Rattle.lk_osq.proofs.Turn.{turn}
-use Rattle.lk_abs.proofs.ByIndex.{get_cases}
+use Rattle.lk_names.proofs.ByIndex.{get_cases}
 
 -- a pair whose phases and next stay
 pub pair_same : {u v : ℕ} {p q p' q' : Phase} {n n' : Node} → Pair u v p q n

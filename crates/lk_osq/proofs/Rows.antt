@@ -27,7 +27,7 @@ use Rattle.lk_osq.specs.Shown.{by_one, by_two, phase_by, phase_of, phase_at, Sho
 use Rattle.lk_osq.specs.Shown.{IsLawfulIfAny}
 use Rattle.lk_osq.proofs.Cases.{cpu_cases}
 use Rattle.lk_osq.proofs.Turn.{stands_behind}
-use Rattle.lk_abs.proofs.ByIndex.{get_cases}
+use Rattle.lk_names.proofs.ByIndex.{get_cases}
 use Rattle.lk_osq.proofs.Kept.{law_enters, law_arrives_first, law_arrives_behind, law_links}
 use Rattle.lk_osq.proofs.Kept.{law_takes, law_cuts, law_withdraws, law_grabs, law_tells}
 use Rattle.lk_osq.proofs.Kept.{law_unlinks, law_frees, law_hands}

@@ -6,7 +6,7 @@ use Rattle.lk_osq.specs.Phase.Phase.{Fresh, Waits, Holds}
 use Rattle.lk_osq.specs.declared.nodes.Node.{Node}
 use Rattle.lk_osq.specs.Queue.{Pair, OsqQueueAgrees, Moves}
 use Rattle.lk_osq.proofs.Cases.{cpu_cases}
-use Rattle.lk_abs.proofs.ByIndex.{get_cases, get-none_up}
+use Rattle.lk_names.proofs.ByIndex.{get_cases, get-none_up}
 
 -- who stands in the queue and does not lead it stands behind another
 pub stands_behind : {tail : Option ℕ} {phase : ℕ → Phase} {node : ℕ → Node} {main : List ℕ}

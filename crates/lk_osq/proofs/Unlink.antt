@@ -8,7 +8,7 @@ use Rattle.lk_osq.specs.Queue.{Pair, OsqQueueAgrees, Moves}
 use Rattle.lk_osq.proofs.Cases.{cpu_cases}
 use Rattle.lk_osq.proofs.Links.{pair_same}
 use Rattle.lk_osq.proofs.Leave.{Drops, dropped, leave-other, leave-inside, leave-place, leave-once}
-use Rattle.lk_abs.proofs.ByIndex.{get_cases, get-some_down}
+use Rattle.lk_names.proofs.ByIndex.{get_cases, get-some_down}
 
 -- Q9: it links the one before it to the one behind it, and leaves
 module _ {tail : Option ℕ} {phase phase' : ℕ → Phase} {node node' : ℕ

@@ -11,7 +11,7 @@ use crate::nodes::Cpu;
 use crate::outcomes::Outcome;
 use crate::places::Place;
 use crate::{lock, next, quit, unlock};
-use lk_abs::{List, Memory};
+use lk_names::{List, Memory};
 use std::alloc::Global;
 use std::marker::Model;
 

@@ -1,6 +1,6 @@
 -- The rounds of the processors, as a table.
 use Rattle.std.specs.Prelude.{◌≡◌, ◌≤◌, ℕ, List, Result, Ok, Err, length}
-use Rattle.lk_abs.specs.ListOf.{ListOf}
+use Rattle.lk_names.specs.ListOf.{ListOf}
 use Rattle.lk_forms.specs.declared.answers.LineRefusal.{LineRefusal}
 
 -- one to 64 processors, and room for so many

@@ -6,8 +6,8 @@ ghost use Rattle.lk_osq_forms.specs.Table.{IsTable};
 
 use crate::keyword::Keyword;
 use crate::table::{header_args, one_cpu};
-use lk_abs::{List, Memory};
 use lk_forms::{Fault, HeaderStep, LineRefusal, is_comment, is_text, next_word, one_word};
+use lk_names::{List, Memory};
 use std::alloc::Global;
 
 // The two words `qosq` and `1`.

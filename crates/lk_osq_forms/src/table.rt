@@ -5,8 +5,8 @@ ghost use Rattle.lk_osq_forms.specs.Lines.{has_rounds, with_rounds, cpus_line, p
 ghost use Rattle.lk_osq_forms.specs.Table.{IsTable, Makes};
 
 use crate::keyword::Keyword;
-use lk_abs::{List, Memory};
 use lk_forms::{Fault, LineRefusal, MAX_CPUS, cpu_word, no_words, number_in, one_word, two_words};
+use lk_names::{List, Memory};
 use std::alloc::Global;
 
 /// The most rounds of a processor.

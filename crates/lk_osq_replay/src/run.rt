@@ -13,8 +13,8 @@ ghost use Rattle.lk_osq_forms.specs.Grammar.{Said, act_of, ending};
 ghost use Rattle.lk_osq_forms.specs.Texts.{lines};
 ghost use Rattle.lk_osq_forms.specs.Trace.{osq_grammar};
 
-use lk_abs::{List, Memory};
 use lk_forms::{Fault, MAX_ACTS, end_line};
+use lk_names::{List, Memory};
 use lk_osq::{OsqEvent, OsqMachine};
 use lk_osq_forms::{Sched, schedule_line, write_event};
 use lk_stream::Stop;

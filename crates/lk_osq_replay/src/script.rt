@@ -4,8 +4,8 @@ ghost use Rattle.lk_osq_forms.specs.Grammar.{nothing_said};
 ghost use Rattle.lk_osq_replay.specs.Script.{Begins, acts_of};
 
 use crate::run::Run;
-use lk_abs::Memory;
 use lk_forms::{Fault, HeaderStep, LineRefusal};
+use lk_names::Memory;
 use lk_osq_forms::OsqHeader;
 use lk_stream::{Script, Stop};
 use lk_text::{Block, Sink, WriteFault};

@@ -1,7 +1,7 @@
 -- How a processor stands to lock 0 of a domain: before a call, in one that waits, and behind it.
 use Rattle.std.specs.Prelude.{◌≡◌, ◌<◌, ℕ, [], ◌∷◌, None}
-use Rattle.lk_abs.specs.declared.holder.Manner.{Manner}
-use Rattle.lk_abs.specs.declared.names.Kind.{Kind}
+use Rattle.lk_names.specs.declared.holder.Manner.{Manner}
+use Rattle.lk_names.specs.declared.names.Kind.{Kind}
 use Rattle.lk_domain.specs.Calls.{hold, lock_name}
 use Rattle.lk_domain.specs.Plans.{kind_at, locks_of}
 use Rattle.lk_domain.specs.Seated.{HoldsNothing}

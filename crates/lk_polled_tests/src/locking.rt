@@ -1,16 +1,16 @@
 // A call of `lock` that is polled, by two processors of one thread: one has the lock while the other
 // waits, and the other has it at its first poll behind the release.
 ghost use Rattle.std.specs.Prelude.{◌≡◌, Some, false};
-ghost use Rattle.lk_abs.specs.declared.holder.Manner.TheVariants.{Spins};
-ghost use Rattle.lk_abs.specs.declared.names.Kind.TheVariants.{Spin};
+ghost use Rattle.lk_names.specs.declared.holder.Manner.TheVariants.{Spins};
+ghost use Rattle.lk_names.specs.declared.names.Kind.TheVariants.{Spin};
 ghost use Rattle.lk_law.specs.Agree.{halts};
 ghost use Rattle.lk_domain.specs.Seats.{IsOf};
 ghost use Rattle.lk_run.specs.declared.waiter.Waiter.{Waiter};
 ghost use Rattle.lk_polled_tests.specs.Stages.{Has, Locking, MayBegin};
 
 use crate::stage::{LOCK, last, open};
-use lk_abs::{Kind, Mode};
 use lk_domain::{Cpu, Domain};
+use lk_names::{Kind, Mode};
 use lk_run::{NoIrq, Waiter, begin, lock, poll, unlock};
 use std::process::Abort;
 use std::sync::Wait;

@@ -1,15 +1,15 @@
 // A call of `read_lock` that is polled: a reader waits for the writer.
 ghost use Rattle.std.specs.Prelude.{◌≡◌, Some, false};
-ghost use Rattle.lk_abs.specs.declared.holder.Manner.TheVariants.{Writes};
-ghost use Rattle.lk_abs.specs.declared.names.Kind.TheVariants.{Rw};
+ghost use Rattle.lk_names.specs.declared.holder.Manner.TheVariants.{Writes};
+ghost use Rattle.lk_names.specs.declared.names.Kind.TheVariants.{Rw};
 ghost use Rattle.lk_law.specs.Agree.{halts};
 ghost use Rattle.lk_domain.specs.Seats.{IsOf};
 ghost use Rattle.lk_run.specs.declared.read_waiter.ReadWaiter.{ReadWaiter};
 ghost use Rattle.lk_polled_tests.specs.Stages.{Has, MayBegin, Reading};
 
 use crate::stage::{LOCK, last, open};
-use lk_abs::{Kind, Mode};
 use lk_domain::{Cpu, Domain};
+use lk_names::{Kind, Mode};
 use lk_run::{NoIrq, ReadWaiter, begin_read, poll_read, write_lock, write_unlock};
 use std::process::Abort;
 use std::sync::Wait;

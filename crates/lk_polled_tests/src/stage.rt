@@ -6,8 +6,8 @@ ghost use Rattle.lk_domain.specs.Plans.{IsLawfulPlan, cpus_of, kind_at, locks_of
 ghost use Rattle.lk_domain.specs.Seated.{HoldsNothing};
 ghost use Rattle.lk_domain.specs.Seats.{IsOf, view_of};
 
-use lk_abs::{Format, Kind, List, Memory, Mode, Topology};
 use lk_domain::{Cpu, Domain, LockId, Plan};
+use lk_names::{Format, Kind, List, Memory, Mode, Topology};
 use std::alloc::Global;
 
 /// Its lock.

@@ -1,15 +1,15 @@
 // A call of `write_lock` that is polled: a writer waits for a reader.
 ghost use Rattle.std.specs.Prelude.{◌≡◌, Some, false};
-ghost use Rattle.lk_abs.specs.declared.holder.Manner.TheVariants.{Reads};
-ghost use Rattle.lk_abs.specs.declared.names.Kind.TheVariants.{Rw};
+ghost use Rattle.lk_names.specs.declared.holder.Manner.TheVariants.{Reads};
+ghost use Rattle.lk_names.specs.declared.names.Kind.TheVariants.{Rw};
 ghost use Rattle.lk_law.specs.Agree.{halts};
 ghost use Rattle.lk_domain.specs.Seats.{IsOf};
 ghost use Rattle.lk_run.specs.declared.write_waiter.WriteWaiter.{WriteWaiter};
 ghost use Rattle.lk_polled_tests.specs.Stages.{Has, MayBegin, Writing};
 
 use crate::stage::{LOCK, last, open};
-use lk_abs::{Kind, Mode};
 use lk_domain::{Cpu, Domain};
+use lk_names::{Kind, Mode};
 use lk_run::{NoIrq, WriteWaiter, begin_write, poll_write, read_lock, read_unlock};
 use std::process::Abort;
 use std::sync::Wait;

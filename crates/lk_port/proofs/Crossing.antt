@@ -5,11 +5,11 @@ use Rattle.std.proofs.Crossing.{crosses}
 use Rattle.std.proofs.option.Option.TheSendSync as option
 use Rattle.std.proofs.alloc.Global.TheSendSync as global
 use Rattle.atomic_table.proofs.owned.Table.TheSendSync as table
-use Rattle.lk_abs.proofs.list.List.TheSendSync as list
-use Rattle.lk_abs.proofs.names.Topology.TheSendSync as topology
-use Rattle.lk_abs.proofs.names.Format.TheSendSync as format
-use Rattle.lk_abs.proofs.names.Mode.TheSendSync as mode
-use Rattle.lk_abs.proofs.names.Kind.TheSendSync as kind
+use Rattle.lk_names.proofs.list.List.TheSendSync as list
+use Rattle.lk_names.proofs.names.Topology.TheSendSync as topology
+use Rattle.lk_names.proofs.names.Format.TheSendSync as format
+use Rattle.lk_names.proofs.names.Mode.TheSendSync as mode
+use Rattle.lk_names.proofs.names.Kind.TheSendSync as kind
 use Rattle.lk_domain.proofs.rule.Order.TheSendSync as order
 use Rattle.lk_domain.proofs.slot.Stowed.TheSendSync as stowed
 use Rattle.lk_domain.proofs.Crossing.{domain_sync}

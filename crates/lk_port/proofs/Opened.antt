@@ -1,8 +1,8 @@
 -- What new ports are of.
 use Rattle.std.proofs.Common.{◌≡◌, ℕ, ◌+◌, List, [], ◌∷◌, ◌++◌, length, arith, sym, ap, ◌∙◌, subst}
 use Rattle.std.specs.Prelude.{Result, Ok, Err, IfOk}
-use Rattle.lk_abs.specs.declared.names.Kind.{Kind}
-use Rattle.lk_abs.specs.declared.names.Mode.{Mode}
+use Rattle.lk_names.specs.declared.names.Kind.{Kind}
+use Rattle.lk_names.specs.declared.names.Mode.{Mode}
 use Rattle.lk_domain.specs.Plans.{cpus_of}
 use Rattle.lk_domain.specs.declared.domain.Domain.{Domain}
 use Rattle.lk_domain.specs.declared.plan.Plan.{Plan}

@@ -3,12 +3,12 @@ use Rattle.std.proofs.Common.{◌≡◌, ◌≢◌, ℕ, ◌+◌, ◌<◌, List,
 use Rattle.std.specs.Prelude.{if◌then◌else◌, ◌&&◌, ◌||◌, not, None, Some, Option, slice_index_or}
 use Rattle.std.proofs.lemmas.Bool.{eqb-true}
 use Rattle.std.proofs.lemmas.List.{get_or_push, get_or_append_left, length-append, length-replicate, length-set, get_or-set_same, get_or-set_other}
-use Rattle.lk_abs.specs.Names.{same_lock}
-use Rattle.lk_abs.specs.declared.holder.Manner.{Manner}
-use Rattle.lk_abs.specs.declared.holder.Manner.TheVariants.{Spins}
-use Rattle.lk_abs.specs.declared.names.Kind.{Kind}
-use Rattle.lk_abs.specs.declared.names.Kind.TheVariants.{Spin, Rw}
-use Rattle.lk_abs.specs.declared.names.LockName.{LockName}
+use Rattle.lk_names.specs.Names.{same_lock}
+use Rattle.lk_names.specs.declared.holder.Manner.{Manner}
+use Rattle.lk_names.specs.declared.holder.Manner.TheVariants.{Spins}
+use Rattle.lk_names.specs.declared.names.Kind.{Kind}
+use Rattle.lk_names.specs.declared.names.Kind.TheVariants.{Spin, Rw}
+use Rattle.lk_names.specs.declared.names.LockName.{LockName}
 use Rattle.lk_rows.specs.declared.parts.Pc.{Pc}
 use Rattle.lk_rows.specs.declared.setup.Verb.{Verb}
 use Rattle.lk_rows.specs.declared.setup.Verb.TheVariants.{Lock}

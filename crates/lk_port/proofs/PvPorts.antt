@@ -4,10 +4,10 @@ use Rattle.std.specs.Prelude.{if◌then◌else◌, ◌&&◌, not, slice_index_or
 use Rattle.std.proofs.lemmas.List.{get_or_push, get_or_append_left, get_or-replicate, length-append, length-replicate, length-set, get_or-set_same, get_or-set_other}
 use Rattle.std.specs.Arc.{arc_value}
 use Rattle.atomic_table.specs.declared.shared.Seat.{Seat}
-use Rattle.lk_abs.specs.Names.{same_lock}
-use Rattle.lk_abs.specs.declared.holder.Manner.{Manner}
-use Rattle.lk_abs.specs.declared.holder.Manner.TheVariants.{Spins}
-use Rattle.lk_abs.specs.declared.names.LockName.{LockName}
+use Rattle.lk_names.specs.Names.{same_lock}
+use Rattle.lk_names.specs.declared.holder.Manner.{Manner}
+use Rattle.lk_names.specs.declared.holder.Manner.TheVariants.{Spins}
+use Rattle.lk_names.specs.declared.names.LockName.{LockName}
 use Rattle.lk_word.specs.declared.spin_word.NodeName.{NodeName}
 use Rattle.lk_rows.specs.declared.setup.Verb.{Verb}
 use Rattle.lk_rows.specs.declared.setup.Verb.TheVariants.{Lock, Try, Unlock}
@@ -35,7 +35,7 @@ use Rattle.lk_port.specs.PvStanding.{AreHeld, IsHome, PvStands}
 use Rattle.lk_port.specs.Standing.{are_home}
 use Rattle.lk_port.specs.declared.answer.Answer.{Answer}
 use Rattle.lk_port.specs.declared.pv_port.PvPort.{PvPort}
-use Rattle.lk_abs.specs.declared.names.Kind.{Kind}
+use Rattle.lk_names.specs.declared.names.Kind.{Kind}
 
 -- a lock was taken, or was freed
 

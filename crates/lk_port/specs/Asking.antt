@@ -1,8 +1,8 @@
 -- When a port refuses a call, and when the call may begin.
 use Rattle.std.specs.Prelude.{◌≡◌, ◌≢◌, ℕ, ◌≤◌, Bool, true, false, Option}
 use Rattle.std.specs.Arc.{arc_value}
-use Rattle.lk_abs.specs.declared.holder.Manner.{Manner}
-use Rattle.lk_abs.specs.declared.names.Kind.{Kind}
+use Rattle.lk_names.specs.declared.holder.Manner.{Manner}
+use Rattle.lk_names.specs.declared.names.Kind.{Kind}
 use Rattle.lk_domain.specs.Calls.{holds_in, way_in}
 use Rattle.lk_domain.specs.Plans.{locks_of, kind_at}
 use Rattle.lk_domain.specs.Seats.{calls_of}

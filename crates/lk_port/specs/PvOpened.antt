@@ -1,6 +1,6 @@
 -- What new ports of a family that halts are of.
 use Rattle.std.specs.Prelude.{◌≡◌, ℕ, ◌+◌, ◌<◌, List, length, slice_index_or}
-use Rattle.lk_abs.specs.declared.names.Format.TheVariants.{One}
+use Rattle.lk_names.specs.declared.names.Format.TheVariants.{One}
 use Rattle.lk_pvdomain.specs.PvPlans.{IsPlanOf}
 use Rattle.lk_pvdomain.specs.declared.domain.PvDomain.{PvDomain}
 use Rattle.lk_pvdomain.specs.declared.plan.PvPlan.{PvPlan}

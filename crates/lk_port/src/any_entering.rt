@@ -1,8 +1,8 @@
 // The calls of a reader and a writer, of whatever family. One whose waiters halt has no reader-writer
 // locks.
 ghost use Rattle.std.specs.Prelude.{◌≡◌, ◌≢◌};
-ghost use Rattle.lk_abs.specs.declared.holder.Manner.TheVariants.{Reads, Writes};
-ghost use Rattle.lk_abs.specs.declared.names.Kind.TheVariants.{Rw};
+ghost use Rattle.lk_names.specs.declared.holder.Manner.TheVariants.{Reads, Writes};
+ghost use Rattle.lk_names.specs.declared.names.Kind.TheVariants.{Rw};
 ghost use Rattle.lk_rows.specs.declared.parts.Pc.TheVariants.{Z1, Z2};
 ghost use Rattle.lk_rows.specs.declared.setup.Verb.TheVariants.{Read, TryRead, TryWrite, Write};
 ghost use Rattle.lk_port.specs.AnyPorts.{Enters, EntersAtOnce, Leaves, MissesEntry};
@@ -12,8 +12,8 @@ ghost use Rattle.lk_port.specs.declared.answer.Answer.TheVariants.{Busy, Done, W
 use crate::answer::Answer;
 use crate::any_port::AnyPort;
 use crate::pv_port::PvPort;
-use lk_abs::Kind;
 use lk_domain::LockId;
+use lk_names::Kind;
 
 // Why a processor that has spinlocks alone is in no reader-writer lock.
 fn no_entry(port: &PvPort, lock: LockId) -> Answer

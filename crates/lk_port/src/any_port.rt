@@ -1,6 +1,6 @@
 // A processor with its domain, of whatever family: each call is that of its port.
 ghost use Rattle.std.specs.Prelude.{◌≡◌, ◌≢◌, true, false};
-ghost use Rattle.lk_abs.specs.declared.names.Kind.TheVariants.{Spin};
+ghost use Rattle.lk_names.specs.declared.names.Kind.TheVariants.{Spin};
 ghost use Rattle.lk_port.specs.AnyPorts.{Ends, Frees, Locks, Misses, Refuses, Stays, Tries};
 ghost use Rattle.lk_port.specs.AnyPorts.{has_halted, may_halt};
 ghost use Rattle.lk_port.specs.PvPorts.{is_turn};

@@ -1,7 +1,7 @@
 // Whether a call of a port may begin, and looks, which change nothing.
 ghost use Rattle.std.specs.Prelude.{◌≡◌, None, Some, true, false, IfSome};
-ghost use Rattle.lk_abs.specs.declared.holder.Manner.TheVariants.{Reads, Writes};
-ghost use Rattle.lk_abs.specs.declared.names.Kind.TheVariants.{Rw};
+ghost use Rattle.lk_names.specs.declared.holder.Manner.TheVariants.{Reads, Writes};
+ghost use Rattle.lk_names.specs.declared.names.Kind.TheVariants.{Rw};
 ghost use Rattle.lk_port.specs.Asking.{MayCall, Refuses, has, way};
 ghost use Rattle.lk_port.specs.declared.answer.Answer.{Answer};
 
@@ -9,8 +9,8 @@ use crate::answer::Answer;
 use crate::last::Last;
 use crate::pending::Pending;
 use crate::port::Port;
-use lk_abs::Kind;
 use lk_domain::{Domain, LockId};
+use lk_names::Kind;
 
 impl Port {
     // Whether a call may begin on a lock of this kind that the processor holds, or does not, because the

@@ -11,8 +11,8 @@ ghost use Rattle.lk_port.specs.Opened.{mode_of, AreOpened, ArePortsOf, HasPlan, 
 use crate::last::Last;
 use crate::pending::Pending;
 use crate::port::Port;
-use lk_abs::{Format, Kind, List, Memory, Mode, Topology};
 use lk_domain::{Cpu, Domain, MOST_CPUS, MOST_LOCKS, Plan};
+use lk_names::{Format, Kind, List, Memory, Mode, Topology};
 use std::alloc::Global;
 use std::sync::Arc;
 

@@ -6,8 +6,8 @@ ghost use Rattle.lk_port.specs.Standing.{IsLast, Stands};
 
 use crate::last::Last;
 use crate::pending::Pending;
-use lk_abs::List;
 use lk_domain::{Cpu, Domain};
+use lk_names::List;
 use std::alloc::Global;
 use std::sync::Arc;
 

@@ -6,8 +6,8 @@ ghost use Rattle.lk_port.specs.declared.answer.Answer.{Answer};
 
 use crate::answer::Answer;
 use crate::pv_port::PvPort;
-use lk_abs::Kind;
 use lk_domain::LockId;
+use lk_names::Kind;
 use lk_pvdomain::PvDomain;
 
 impl PvPort {

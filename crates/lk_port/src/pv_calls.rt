@@ -1,6 +1,6 @@
 // The calls of a port whose family halts.
 ghost use Rattle.std.specs.Prelude.{◌≡◌, ◌≢◌, None, Some, true, false};
-ghost use Rattle.lk_abs.specs.declared.names.Kind.TheVariants.{Spin};
+ghost use Rattle.lk_names.specs.declared.names.Kind.TheVariants.{Spin};
 ghost use Rattle.lk_rows.specs.declared.setup.Verb.TheVariants.{Lock, Try};
 ghost use Rattle.lk_pvdomain.specs.PvReleases.{has_freed};
 ghost use Rattle.lk_port.specs.PvPorts.{PvMayCall, PvRefuses, PvTakes, PvMisses, PvPolls, PvTurns};
@@ -9,8 +9,8 @@ ghost use Rattle.lk_port.specs.declared.answer.Answer.TheVariants.{Done, Busy, W
 
 use crate::answer::Answer;
 use crate::pv_port::PvPort;
-use lk_abs::Kind;
 use lk_domain::LockId;
+use lk_names::Kind;
 use lk_pvdomain::{
     PvDomain, PvRelease, PvTurn, PvWaiter, pv_begin, pv_poll, pv_try_lock, pv_try_unlock,
 };

@@ -10,8 +10,8 @@ ghost use Rattle.lk_port.specs.PvPorts.{pv_domain_in};
 
 use crate::opening::Fault;
 use crate::pv_port::PvPort;
-use lk_abs::{Format, List, Memory};
 use lk_domain::{MOST_CPUS, MOST_LOCKS};
+use lk_names::{Format, List, Memory};
 use lk_pvdomain::{PvCpu, PvDomain, PvPlan};
 use std::alloc::Global;
 use std::sync::Arc;

@@ -4,7 +4,7 @@ ghost use Rattle.std.specs.Arc.{arc_value};
 ghost use Rattle.lk_pvdomain.specs.PvSeats.{IsOf};
 ghost use Rattle.lk_port.specs.PvStanding.{PvStands};
 
-use lk_abs::List;
+use lk_names::List;
 use lk_pvdomain::{PvCpu, PvDomain, PvWaiter};
 use std::alloc::Global;
 use std::sync::Arc;

@@ -1,7 +1,7 @@
 // The calls of a reader.
 ghost use Rattle.std.specs.Prelude.{◌≡◌, ◌≢◌, None, Some, true, false};
-ghost use Rattle.lk_abs.specs.declared.holder.Manner.TheVariants.{Reads, Writes};
-ghost use Rattle.lk_abs.specs.declared.names.Kind.TheVariants.{Rw};
+ghost use Rattle.lk_names.specs.declared.holder.Manner.TheVariants.{Reads, Writes};
+ghost use Rattle.lk_names.specs.declared.names.Kind.TheVariants.{Rw};
 ghost use Rattle.lk_rows.specs.declared.parts.Pc.TheVariants.{Z1};
 ghost use Rattle.lk_rows.specs.declared.setup.Verb.TheVariants.{Read, TryRead};
 ghost use Rattle.lk_port.specs.Asking.{MayCall, Refuses, way};
@@ -12,8 +12,8 @@ use crate::answer::Answer;
 use crate::last::Last;
 use crate::pending::Pending;
 use crate::port::Port;
-use lk_abs::Kind;
 use lk_domain::{Domain, LockId};
+use lk_names::Kind;
 
 impl Port {
     /// Enters a reader-writer lock as a reader if no writer is in it or waits at its head. It never

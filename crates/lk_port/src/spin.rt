@@ -1,8 +1,8 @@
 // The calls on a spinlock.
 ghost use Rattle.std.specs.Prelude.{◌≡◌, ◌≢◌, ◌<◌, None, Some, true, false};
 ghost use Rattle.std.specs.Arc.{arc_value};
-ghost use Rattle.lk_abs.specs.declared.holder.Manner.TheVariants.{Spins};
-ghost use Rattle.lk_abs.specs.declared.names.Kind.TheVariants.{Spin};
+ghost use Rattle.lk_names.specs.declared.holder.Manner.TheVariants.{Spins};
+ghost use Rattle.lk_names.specs.declared.names.Kind.TheVariants.{Spin};
 ghost use Rattle.lk_rows.specs.declared.setup.Verb.TheVariants.{Lock, Try};
 ghost use Rattle.lk_domain.specs.Plans.{locks_of};
 ghost use Rattle.lk_domain.specs.Seats.{IsOf, KeepsRest};
@@ -16,8 +16,8 @@ use crate::answer::Answer;
 use crate::last::Last;
 use crate::pending::Pending;
 use crate::port::Port;
-use lk_abs::Kind;
 use lk_domain::{Cpu, Domain, LockId};
+use lk_names::Kind;
 use lk_run::Arrival;
 use std::alloc::Global;
 use std::sync::Arc;

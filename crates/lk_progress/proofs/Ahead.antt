@@ -2,20 +2,20 @@
 use Rattle.std.proofs.Common.{◌≡◌, ◌≢◌, ◌⊎◌, inl, inr, ℕ, zero, suc, ◌<◌, ◌≤◌, ◌+◌, Option, Some, None, Bool, false}
 use Rattle.std.proofs.Common.{refl, sym, ap, ◌∙◌, subst, arith, List, [], ◌∷◌, ◌++◌, slice_get, drop, take}
 use Rattle.std.specs.Prelude.{Contains, slice_index_or, if◌then◌else◌, ◌-◌}
-use Rattle.lk_abs.specs.History.{LockHistory, changed, without}
-use Rattle.lk_abs.specs.Lawful.{Holds, HoldsSo, Rules, InOrder, OwnsUp, lawful_moves}
-use Rattle.lk_abs.specs.declared.holder.Holder.{Holder}
-use Rattle.lk_abs.specs.declared.holder.Manner.{Manner}
-use Rattle.lk_abs.specs.declared.holder.Manner.TheVariants.{Spins, Reads, Writes}
-use Rattle.lk_abs.specs.declared.names.Mode.{Mode}
-use Rattle.lk_abs.specs.declared.names.Mode.TheVariants.{Virt, Native, Cna, Pv}
-use Rattle.lk_abs.specs.declared.names.Waiter.{Waiter}
-use Rattle.lk_abs.specs.declared.names.LockName.{LockName}
-use Rattle.lk_abs.specs.declared.events.How.{How}
-use Rattle.lk_abs.specs.declared.events.What.{What}
-use Rattle.lk_abs.specs.declared.events.What.TheVariants.{Take, Miss, Release, Kick, Arrive, Pass, Flush, Promote, Leave}
-use Rattle.lk_abs.specs.declared.events.What.TheVariants.{Halt, Wake, Int, Nudge, RTake, RRelease, WTake, WRelease}
-use Rattle.lk_abs.proofs.ByIndex.{get-append_old, get-drop_one}
+use Rattle.lk_names.specs.History.{LockHistory, changed, without}
+use Rattle.lk_names.specs.Lawful.{Holds, HoldsSo, Rules, InOrder, OwnsUp, lawful_moves}
+use Rattle.lk_names.specs.declared.holder.Holder.{Holder}
+use Rattle.lk_names.specs.declared.holder.Manner.{Manner}
+use Rattle.lk_names.specs.declared.holder.Manner.TheVariants.{Spins, Reads, Writes}
+use Rattle.lk_names.specs.declared.names.Mode.{Mode}
+use Rattle.lk_names.specs.declared.names.Mode.TheVariants.{Virt, Native, Cna, Pv}
+use Rattle.lk_names.specs.declared.names.Waiter.{Waiter}
+use Rattle.lk_names.specs.declared.names.LockName.{LockName}
+use Rattle.lk_names.specs.declared.events.How.{How}
+use Rattle.lk_names.specs.declared.events.What.{What}
+use Rattle.lk_names.specs.declared.events.What.TheVariants.{Take, Miss, Release, Kick, Arrive, Pass, Flush, Promote, Leave}
+use Rattle.lk_names.specs.declared.events.What.TheVariants.{Halt, Wake, Int, Nudge, RTake, RRelease, WTake, WRelease}
+use Rattle.lk_names.proofs.ByIndex.{get-append_old, get-drop_one}
 use Rattle.lk_abs.proofs.Sameness.{is_hold-refl}
 use Rattle.lk_law.specs.Agree.{sole}
 use Rattle.lk_law.specs.Cna.{moves_aside}

@@ -4,9 +4,9 @@ use Rattle.std.proofs.Common.{◌≡◌, ◌⊎◌, ◌<◌, ◌≤◌, ◌+◌,
 use Rattle.std.proofs.Common.{refl, sym, ap, ◌∙◌, [], ◌∷◌, length}
 use Rattle.std.proofs.lemmas.Option.{slice_get_within}
 use Rattle.std.specs.Prelude.{if◌then◌else◌, is_some}
-use Rattle.lk_abs.specs.History.{LockHistory}
-use Rattle.lk_abs.specs.declared.names.Waiter.{Waiter}
-use Rattle.lk_abs.specs.declared.names.LockName.{LockName}
+use Rattle.lk_names.specs.History.{LockHistory}
+use Rattle.lk_names.specs.declared.names.Waiter.{Waiter}
+use Rattle.lk_names.specs.declared.names.LockName.{LockName}
 use Rattle.lk_word.specs.declared.spin_word.NodeName.{NodeName}
 use Rattle.lk_word.specs.declared.spin_word.Fields.{Fields}
 use Rattle.lk_rows.specs.declared.parts.Frame.{Frame}
@@ -16,7 +16,7 @@ use Rattle.lk_rows.specs.declared.parts.Why.{Why}
 use Rattle.lk_rows.specs.declared.parts.Why.TheVariants as why
 use Rattle.lk_rows.specs.Moves.{node_of}
 use Rattle.lk_rows.specs.Row.{Effect, Goes, Leaves, Says, Y, Second, T, gone, looks}
-use Rattle.lk_abs.specs.declared.events.What.TheVariants as what
+use Rattle.lk_names.specs.declared.events.What.TheVariants as what
 use Rattle.lk_rows.specs.TopRow.{target}
 use Rattle.lk_rows.specs.rows.Cna.{Sight, may_stay, is_last, after_none}
 use Rattle.lk_rows.specs.rows.Cna.{search_first, search_on, after_tail}

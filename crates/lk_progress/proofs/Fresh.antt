@@ -3,13 +3,13 @@
 use Rattle.std.proofs.Common.{◌≡◌, ◌≢◌, ◌⊎◌, inl, inr, ℕ, ◌<◌, Some, None, Bool, true, false, [], ◌∷◌, refl}
 use Rattle.std.proofs.Common.{sym, ap, ◌∙◌, subst, length, slice_get}
 use Rattle.std.specs.Prelude.{if◌then◌else◌}
-use Rattle.lk_abs.specs.Names.{same_waiter, same_lock}
-use Rattle.lk_abs.specs.History.{LockHistory}
-use Rattle.lk_abs.specs.declared.names.Waiter.{Waiter}
-use Rattle.lk_abs.specs.declared.names.LockName.{LockName}
-use Rattle.lk_abs.specs.declared.events.Act.{Act}
-use Rattle.lk_abs.specs.declared.events.Event.{Event}
-use Rattle.lk_abs.specs.declared.events.What.TheVariants.{Pass, Flush, Promote, Take}
+use Rattle.lk_names.specs.Names.{same_waiter, same_lock}
+use Rattle.lk_names.specs.History.{LockHistory}
+use Rattle.lk_names.specs.declared.names.Waiter.{Waiter}
+use Rattle.lk_names.specs.declared.names.LockName.{LockName}
+use Rattle.lk_names.specs.declared.events.Act.{Act}
+use Rattle.lk_names.specs.declared.events.Event.{Event}
+use Rattle.lk_names.specs.declared.events.What.TheVariants.{Pass, Flush, Promote, Take}
 use Rattle.lk_rows.specs.declared.parts.Frame.{Frame}
 use Rattle.lk_rows.specs.declared.parts.Pc.{Pc}
 use Rattle.lk_rows.specs.declared.parts.Pc.TheVariants.{C1, C7, C8, C9, C10, G8, G9}
@@ -34,7 +34,7 @@ use Rattle.lk_progress.proofs.Acted.{Acted, Idles, Makes, Comes, acted}
 use Rattle.lk_progress.proofs.Moves.{Moves}
 use Rattle.lk_progress.proofs.Rows.{Put, row_moves, row_tells}
 use Rattle.lk_progress.proofs.Told.{ToldRow, told_says, told_hands, tell_is}
-use Rattle.lk_abs.specs.declared.events.How.TheVariants as how
+use Rattle.lk_names.specs.declared.events.How.TheVariants as how
 use Rattle.lk_word.specs.declared.spin_word.Fields.{Fields}
 use Rattle.lk_rows.specs.rows.Spin.{held_word}
 use Rattle.lk_rows.specs.rows.Queue.{is_sole, takes_out}

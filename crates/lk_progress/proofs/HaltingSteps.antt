@@ -3,10 +3,10 @@ use Rattle.std.proofs.Common.{◌≡◌, ◌≢◌, ◌⊎◌, inl, inr, ℕ, �
 use Rattle.std.proofs.Common.{true, false, refl, sym, ap, ◌∙◌, [], ◌∷◌, length, arith}
 use Rattle.std.proofs.lemmas.Bool.{cases_Bool}
 use Rattle.std.specs.Prelude.{if◌then◌else◌, is_some, ◌&&◌, not}
-use Rattle.lk_abs.specs.History.{LockHistory, history_of}
-use Rattle.lk_abs.specs.declared.names.LockName.{LockName}
-use Rattle.lk_abs.specs.declared.events.Act.TheVariants as act
-use Rattle.lk_abs.specs.declared.events.RwHow.TheVariants as how
+use Rattle.lk_names.specs.History.{LockHistory, history_of}
+use Rattle.lk_names.specs.declared.names.LockName.{LockName}
+use Rattle.lk_names.specs.declared.events.Act.TheVariants as act
+use Rattle.lk_names.specs.declared.events.RwHow.TheVariants as how
 use Rattle.lk_word.specs.declared.spin_word.NodeName.{NodeName}
 use Rattle.lk_word.specs.declared.spin_word.Fields.{Fields}
 use Rattle.lk_word.specs.declared.spin_word.Locked.{Locked}

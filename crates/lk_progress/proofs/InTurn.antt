@@ -4,22 +4,22 @@ use Rattle.std.proofs.Common.{refl, sym, ap, ◌∙◌, subst, arith, length, sl
 use Rattle.std.proofs.lemmas.Bool.{cases_Bool}
 use Rattle.std.specs.Prelude.{if◌then◌else◌, Contains, slice_index_or}
 use Rattle.lk_abs.specs.Allowed.{IsAllowed}
-use Rattle.lk_abs.specs.History.{LockHistory, history_of, lock_of, is_on, changed, taken}
-use Rattle.lk_abs.specs.Lawful.{Rules, InOrder, IsOutside, Holds, IsLawful}
-use Rattle.lk_abs.specs.Names.{same_lock}
-use Rattle.lk_abs.specs.declared.holder.Manner.TheVariants.{Spins}
-use Rattle.lk_abs.specs.declared.holder.Holder.{Holder}
-use Rattle.lk_abs.specs.declared.names.Kind.TheVariants.{Spin}
-use Rattle.lk_abs.specs.declared.names.Mode.{Mode}
-use Rattle.lk_abs.specs.declared.names.Waiter.{Waiter}
-use Rattle.lk_abs.specs.declared.names.LockName.{LockName}
-use Rattle.lk_abs.specs.declared.events.Act.{Act}
-use Rattle.lk_abs.specs.declared.events.Event.{Event}
-use Rattle.lk_abs.specs.declared.events.How.{How}
-use Rattle.lk_abs.specs.declared.events.How.TheVariants as how
-use Rattle.lk_abs.specs.declared.events.What.{What}
-use Rattle.lk_abs.specs.declared.events.What.TheVariants.{Take, Arrive, Int}
-use Rattle.lk_abs.proofs.ByIndex.{get-append_new}
+use Rattle.lk_names.specs.History.{LockHistory, history_of, lock_of, is_on, changed, taken}
+use Rattle.lk_names.specs.Lawful.{Rules, InOrder, IsOutside, Holds, IsLawful}
+use Rattle.lk_names.specs.Names.{same_lock}
+use Rattle.lk_names.specs.declared.holder.Manner.TheVariants.{Spins}
+use Rattle.lk_names.specs.declared.holder.Holder.{Holder}
+use Rattle.lk_names.specs.declared.names.Kind.TheVariants.{Spin}
+use Rattle.lk_names.specs.declared.names.Mode.{Mode}
+use Rattle.lk_names.specs.declared.names.Waiter.{Waiter}
+use Rattle.lk_names.specs.declared.names.LockName.{LockName}
+use Rattle.lk_names.specs.declared.events.Act.{Act}
+use Rattle.lk_names.specs.declared.events.Event.{Event}
+use Rattle.lk_names.specs.declared.events.How.{How}
+use Rattle.lk_names.specs.declared.events.How.TheVariants as how
+use Rattle.lk_names.specs.declared.events.What.{What}
+use Rattle.lk_names.specs.declared.events.What.TheVariants.{Take, Arrive, Int}
+use Rattle.lk_names.proofs.ByIndex.{get-append_new}
 use Rattle.lk_abs.proofs.OneMore.{told_here, told_elsewhere, allowed_from_lawful}
 use Rattle.lk_abs.proofs.Sameness.{is_on-true}
 use Rattle.lk_rows.specs.declared.setup.Setup.{Setup}

@@ -4,22 +4,22 @@ use Rattle.std.proofs.Common.{refl, sym, ap, ◌∙◌, subst, arith, length, sl
 use Rattle.std.proofs.lemmas.Bool.{cases_Bool}
 use Rattle.std.specs.Prelude.{Contains, slice_index_or, map}
 use Rattle.lk_abs.specs.Allowed.{IsAllowed}
-use Rattle.lk_abs.specs.History.{LockHistory, no_history, history_of, lock_of, is_on, changed, taken}
-use Rattle.lk_abs.specs.Lawful.{Rules, InOrder, IsOutside, IsLawful}
-use Rattle.lk_abs.specs.declared.holder.Manner.TheVariants.{Spins}
-use Rattle.lk_abs.specs.declared.holder.Holder.{Holder}
-use Rattle.lk_abs.specs.declared.names.Kind.TheVariants.{Spin}
-use Rattle.lk_abs.specs.declared.names.Mode.{Mode}
-use Rattle.lk_abs.specs.declared.names.Waiter.{Waiter}
-use Rattle.lk_abs.specs.declared.names.LockName.{LockName}
-use Rattle.lk_abs.specs.declared.events.Act.{Act}
-use Rattle.lk_abs.specs.declared.events.Event.{Event}
-use Rattle.lk_abs.specs.declared.events.How.{How}
-use Rattle.lk_abs.specs.declared.events.How.TheVariants as how
-use Rattle.lk_abs.specs.declared.events.What.{What}
-use Rattle.lk_abs.specs.declared.events.What.TheVariants.{Take, Miss, Release, Kick, Arrive, Pass, Flush, Promote, Leave}
-use Rattle.lk_abs.specs.declared.events.What.TheVariants.{Halt, Wake, Int, Nudge, RTake, RRelease, WTake, WRelease}
-use Rattle.lk_abs.proofs.ByIndex.{get-append_new, get-append_old, get-drop_one, get_cases, get_past, get_within}
+use Rattle.lk_names.specs.History.{LockHistory, no_history, history_of, lock_of, is_on, changed, taken}
+use Rattle.lk_names.specs.Lawful.{Rules, InOrder, IsOutside, IsLawful}
+use Rattle.lk_names.specs.declared.holder.Manner.TheVariants.{Spins}
+use Rattle.lk_names.specs.declared.holder.Holder.{Holder}
+use Rattle.lk_names.specs.declared.names.Kind.TheVariants.{Spin}
+use Rattle.lk_names.specs.declared.names.Mode.{Mode}
+use Rattle.lk_names.specs.declared.names.Waiter.{Waiter}
+use Rattle.lk_names.specs.declared.names.LockName.{LockName}
+use Rattle.lk_names.specs.declared.events.Act.{Act}
+use Rattle.lk_names.specs.declared.events.Event.{Event}
+use Rattle.lk_names.specs.declared.events.How.{How}
+use Rattle.lk_names.specs.declared.events.How.TheVariants as how
+use Rattle.lk_names.specs.declared.events.What.{What}
+use Rattle.lk_names.specs.declared.events.What.TheVariants.{Take, Miss, Release, Kick, Arrive, Pass, Flush, Promote, Leave}
+use Rattle.lk_names.specs.declared.events.What.TheVariants.{Halt, Wake, Int, Nudge, RTake, RRelease, WTake, WRelease}
+use Rattle.lk_names.proofs.ByIndex.{get-append_new, get-append_old, get-drop_one, get_cases, get_past, get_within}
 use Rattle.lk_abs.proofs.OneMore.{told_here, told_elsewhere, allowed_from_lawful, counts_fit}
 use Rattle.lk_abs.proofs.Sameness.{is_on-true, is_on-from}
 use Rattle.lk_rows.specs.declared.setup.Setup.{Setup}

@@ -2,9 +2,9 @@
 use Rattle.std.proofs.Common.{◌≡◌, ◌⊎◌, ◌<◌, ◌+◌, ℕ, arith, inl, inr, Option, Some, None, Bool, true, false}
 use Rattle.std.proofs.Common.{refl, ap, []}
 use Rattle.std.specs.Prelude.{if◌then◌else◌, is_some, ◌&&◌, not, ◌==◌}
-use Rattle.lk_abs.specs.declared.names.Mode.{Mode}
-use Rattle.lk_abs.specs.declared.names.Mode.TheVariants.{Virt, Native, Cna, Pv}
-use Rattle.lk_abs.specs.declared.names.Waiter.{Waiter}
+use Rattle.lk_names.specs.declared.names.Mode.{Mode}
+use Rattle.lk_names.specs.declared.names.Mode.TheVariants.{Virt, Native, Cna, Pv}
+use Rattle.lk_names.specs.declared.names.Waiter.{Waiter}
 use Rattle.lk_word.specs.declared.spin_word.NodeName.{NodeName}
 use Rattle.lk_word.specs.declared.spin_word.Fields.{Fields}
 use Rattle.lk_word.specs.declared.rw_word.RwFields.{RwFields}
@@ -19,8 +19,8 @@ use Rattle.lk_rows.specs.declared.parts.Pc.TheVariants.{R1, R2, R3, R4, R5, Wr1,
 use Rattle.lk_rows.specs.declared.parts.Pc.TheVariants.{Wr5, Wr6, Y1, Y2, Y3, Y4, Y5, Z1, Z2, U2}
 use Rattle.lk_rows.specs.Moves.{is_node, node_of}
 use Rattle.lk_rows.specs.Row.{Effect, Lead, Goes, Granted, Missed, Leaves, Change, gone, looks}
-use Rattle.lk_abs.specs.declared.events.How.TheVariants as how
-use Rattle.lk_abs.specs.declared.events.RwHow.TheVariants as rw_how
+use Rattle.lk_names.specs.declared.events.How.TheVariants as how
+use Rattle.lk_names.specs.declared.events.RwHow.TheVariants as rw_how
 use Rattle.lk_rows.specs.rows.Spin.{is_free, is_unlocked, to_queue, after_fast, takes}
 use Rattle.lk_rows.specs.rows.Queue.{takes_out, is_sole, own_node, after_entry, after_arrival}
 use Rattle.lk_rows.specs.rows.Queue.{after_head, after_flag, after_next, after_link}

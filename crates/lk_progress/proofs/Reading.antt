@@ -3,10 +3,10 @@ use Rattle.std.proofs.Common.{◌≡◌, ◌≢◌, ◌<◌, arith, ◌<◌, inl
 use Rattle.std.proofs.Common.{refl, sym, ap, ◌∙◌, List, [], arith}
 use Rattle.std.proofs.lemmas.Bool.{cases_Bool}
 use Rattle.std.specs.Prelude.{if◌then◌else◌, is_some, ◌&&◌, not, ◌==◌, ◌-◌}
-use Rattle.lk_abs.specs.declared.names.Mode.{Mode}
-use Rattle.lk_abs.specs.declared.names.Mode.TheVariants.{Virt, Native, Cna, Pv}
-use Rattle.lk_abs.specs.declared.names.Waiter.{Waiter}
-use Rattle.lk_abs.specs.declared.names.LockName.{LockName}
+use Rattle.lk_names.specs.declared.names.Mode.{Mode}
+use Rattle.lk_names.specs.declared.names.Mode.TheVariants.{Virt, Native, Cna, Pv}
+use Rattle.lk_names.specs.declared.names.Waiter.{Waiter}
+use Rattle.lk_names.specs.declared.names.LockName.{LockName}
 use Rattle.lk_word.specs.declared.spin_word.NodeName.{NodeName}
 use Rattle.lk_word.specs.declared.spin_word.Fields.{Fields}
 use Rattle.lk_word.specs.declared.rw_word.RwFields.{RwFields}
@@ -270,7 +270,7 @@ led_reads : (f : Frame) (lead : Lead) → takes_reader lead ≡ false → (f.loc
     → (led f lead).lock.wait ≡ true → (led f lead).then ≢ Some R4
 led_reads f (Goes c cs) t old w e =
     let s = same_changed_all f cs in
-    old (ap (λ (l : Rattle.lk_abs.specs.declared.names.LockName.LockName). l.wait) (sym s.lock) ∙ w) (sym s.next ∙ e)
+    old (ap (λ (l : Rattle.lk_names.specs.declared.names.LockName.LockName). l.wait) (sym s.lock) ∙ w) (sym s.next ∙ e)
 led_reads f (Enters me c) t old w e = old w e
 led_reads f Granted t old w e = old w e
 led_reads f Freed t old w e = old w e
@@ -283,7 +283,7 @@ led_reads f (TakesWait c) t old w e =
 led_reads f Leaves t old w e = old w e
 led_reads f (Yields c cs) t old w e =
     let s = same_changed_all f cs in
-    old (ap (λ (l : Rattle.lk_abs.specs.declared.names.LockName.LockName). l.wait) (sym s.lock) ∙ w) (sym s.next ∙ e)
+    old (ap (λ (l : Rattle.lk_names.specs.declared.names.LockName.LockName). l.wait) (sym s.lock) ∙ w) (sym s.next ∙ e)
 
 pub row_reads_alone : (m : World) (w : Waiter) (f : Frame) (c : Pc) → (f.lock.wait ≡ true → IsThen f.then) → 0 < f.ctx
     → f.place ≡ Some c → ReadsAlone f

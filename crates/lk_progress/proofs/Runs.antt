@@ -2,13 +2,13 @@
 use Rattle.std.proofs.Common.{◌≡◌, ◌≢◌, ◌⊎◌, inl, inr, ℕ, zero, suc, ◌<◌, ◌≤◌, ◌+◌, ◌*◌, Option, Some, None}
 use Rattle.std.proofs.Common.{true, false, refl, sym, ap, ◌∙◌, subst, arith, List, [], ◌∷◌, length}
 use Rattle.std.proofs.lemmas.Bool.{cases_lt}
-use Rattle.lk_abs.specs.History.{LockHistory, history_of}
-use Rattle.lk_abs.specs.declared.names.Mode.{Mode}
-use Rattle.lk_abs.specs.declared.names.Mode.TheVariants.{Native}
-use Rattle.lk_abs.specs.declared.names.Waiter.{Waiter}
-use Rattle.lk_abs.specs.declared.names.LockName.{LockName}
-use Rattle.lk_abs.specs.declared.events.Act.{Act}
-use Rattle.lk_abs.specs.declared.events.Act.TheVariants as act
+use Rattle.lk_names.specs.History.{LockHistory, history_of}
+use Rattle.lk_names.specs.declared.names.Mode.{Mode}
+use Rattle.lk_names.specs.declared.names.Mode.TheVariants.{Native}
+use Rattle.lk_names.specs.declared.names.Waiter.{Waiter}
+use Rattle.lk_names.specs.declared.names.LockName.{LockName}
+use Rattle.lk_names.specs.declared.events.Act.{Act}
+use Rattle.lk_names.specs.declared.events.Act.TheVariants as act
 use Rattle.lk_rows.specs.declared.setup.Setup.{Setup}
 use Rattle.lk_rows.specs.declared.setup.Verb.{Verb}
 use Rattle.lk_rows.specs.declared.setup.Verb.TheVariants.{Lock, Try, Unlock, Read, TryRead}
@@ -45,7 +45,7 @@ use Rattle.lk_waits.specs.Waits.{IsBarred}
 use Rattle.lk_progress.proofs.Budget.{acts_lower, price_falls, runs_are_short, changes_bounded}
 use Rattle.lk_progress.proofs.Turned.{rest_turns}
 use Rattle.lk_progress.proofs.Spot.{spot_or}
-use Rattle.lk_abs.specs.declared.names.Kind.TheVariants.{Spin, Rw}
+use Rattle.lk_names.specs.declared.names.Kind.TheVariants.{Spin, Rw}
 use Rattle.std.specs.Prelude.{slice_index_or}
 use Rattle.lk_waits.proofs.Climb.{no_deadlock}
 use Rattle.lk_waits.specs.Followed.{IsHeadFollowed}

@@ -16,7 +16,7 @@ use Rattle.lk_rows.specs.Row.{gone, looks, Done}
 use Rattle.lk_rows.specs.rows.Queue.{after_flag, after_next}
 use Rattle.lk_rows.specs.rows.Rw.{admits, frees_wait}
 use Rattle.lk_rows.specs.TopRow.{target, row_on, on_rw, on_flag, on_next}
-use Rattle.lk_abs.specs.declared.events.RwHow.TheVariants as how
+use Rattle.lk_names.specs.declared.events.RwHow.TheVariants as how
 use Rattle.lk_law.specs.Families.{may_halt, chooses}
 use Rattle.lk_law.specs.Leads.{course_in}
 use Rattle.lk_law.specs.Premises.{IsThen}

@@ -4,9 +4,9 @@ use Rattle.std.proofs.Common.{◌≡◌, ◌⊎◌, inl, inr, ℕ, Option, Some,
 use Rattle.std.proofs.Common.{◌∙◌, arith, slice_get, subst}
 use Rattle.std.proofs.lemmas.Bool.{cases_Bool}
 use Rattle.std.specs.Prelude.{if◌then◌else◌, is_some, ◌&&◌, not, ◌==◌}
-use Rattle.lk_abs.specs.declared.names.Mode.{Mode}
-use Rattle.lk_abs.specs.declared.names.Mode.TheVariants.{Virt, Native, Cna, Pv}
-use Rattle.lk_abs.specs.declared.names.Waiter.{Waiter}
+use Rattle.lk_names.specs.declared.names.Mode.{Mode}
+use Rattle.lk_names.specs.declared.names.Mode.TheVariants.{Virt, Native, Cna, Pv}
+use Rattle.lk_names.specs.declared.names.Waiter.{Waiter}
 use Rattle.lk_word.specs.declared.spin_word.NodeName.{NodeName}
 use Rattle.lk_word.specs.declared.spin_word.Fields.{Fields}
 use Rattle.lk_word.specs.declared.rw_word.RwFields.{RwFields}
@@ -37,10 +37,10 @@ use Rattle.lk_law.specs.Steps.{led, sight_in}
 use Rattle.lk_law.specs.World.{World}
 use Rattle.lk_law.proofs.common.Puts.{not-true}
 use Rattle.lk_progress.specs.Turns.{NobodyWatchesAnew, is_watching, TakesInTurn}
-use Rattle.lk_abs.specs.History.{LockHistory}
-use Rattle.lk_abs.specs.declared.events.How.{How}
-use Rattle.lk_abs.specs.declared.events.What.TheVariants.{Take}
-use Rattle.lk_abs.specs.declared.names.LockName.{LockName}
+use Rattle.lk_names.specs.History.{LockHistory}
+use Rattle.lk_names.specs.declared.events.How.{How}
+use Rattle.lk_names.specs.declared.events.What.TheVariants.{Take}
+use Rattle.lk_names.specs.declared.names.LockName.{LockName}
 use Rattle.lk_law.specs.Phase.{Phase, leads, queues}
 use Rattle.lk_law.specs.Places.{snapshot, phase_at, phase_if, phase_on}
 use Rattle.lk_law.specs.SpinWorld.{IsSoundSpinWorld}

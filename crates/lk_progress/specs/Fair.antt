@@ -1,8 +1,8 @@
 -- Schedules that are fair, and the theorem that everybody finishes under them.
 use Rattle.std.specs.Prelude.{◌≡◌, ◌<◌, ◌≤◌, ◌+◌, ℕ, true, false, length}
 use Rattle.std.proofs.Common.{zero, suc}
-use Rattle.lk_abs.specs.declared.events.Act.{Act}
-use Rattle.lk_abs.specs.declared.events.Act.TheVariants.{Step}
+use Rattle.lk_names.specs.declared.events.Act.{Act}
+use Rattle.lk_names.specs.declared.events.Act.TheVariants.{Step}
 use Rattle.lk_rows.specs.declared.setup.Setup.{Setup}
 use Rattle.lk_rows.specs.Machine.{Machine, preempted_at}
 use Rattle.lk_rows.specs.Programs.{IsLawfulSetup}

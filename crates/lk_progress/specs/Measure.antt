@@ -1,8 +1,8 @@
 -- How many rows are left of an operation: a number that every row lowers which leads a frame on, but
 -- for the turns of a waiter that polls a word and swaps it.
 use Rattle.std.specs.Prelude.{◌≡◌, ◌⊎◌, ◌<◌, ◌+◌, ◌-◌, ◌*◌, is_some, length, ℕ, Option, Some, None, Bool, true, false, if◌then◌else◌}
-use Rattle.lk_abs.specs.declared.names.Waiter.{Waiter}
-use Rattle.lk_abs.specs.declared.names.LockName.{LockName}
+use Rattle.lk_names.specs.declared.names.Waiter.{Waiter}
+use Rattle.lk_names.specs.declared.names.LockName.{LockName}
 use Rattle.lk_rows.specs.declared.parts.Frame.{Frame}
 use Rattle.lk_rows.specs.declared.parts.Pc.{Pc}
 use Rattle.lk_rows.specs.declared.parts.Pc.TheVariants.{F1, T1, T2, U1, V1, V2, P0, P1, P2, P3}
@@ -21,7 +21,7 @@ use Rattle.lk_law.specs.Leads.{course_in, stored_in}
 use Rattle.lk_rows.specs.Row.{Lead, Goes}
 use Rattle.lk_law.specs.Families.{chooses}
 use Rattle.lk_waits.specs.Waits.{IsBarred}
-use Rattle.lk_abs.specs.declared.names.Mode.{Mode}
+use Rattle.lk_names.specs.declared.names.Mode.{Mode}
 use Rattle.lk_rows.specs.declared.parts.Why.{Why}
 use Rattle.lk_rows.specs.declared.parts.Why.TheVariants as why
 use Rattle.lk_rows.specs.Moves.{node_of}
@@ -31,7 +31,7 @@ use Rattle.lk_law.specs.Premises.{IsThen}
 use Rattle.lk_law.specs.SpinWorld.{IsSoundSpinWorld}
 use Rattle.lk_law.specs.Steps.{led}
 use Rattle.lk_law.specs.World.{World}
-use Rattle.lk_abs.specs.History.{LockHistory}
+use Rattle.lk_names.specs.History.{LockHistory}
 
 -- How many rows follow at most from this one to the end of its part of an operation. A poll and the swap
 -- behind it count alike, since the swap may fail and lead back.

@@ -1,11 +1,11 @@
 -- A number of a machine that every act lowers which changes something, but for pauses.
 use Rattle.std.specs.Prelude.{List, [], ◌∷◌, ◌≡◌, ◌≢◌, ◌⊎◌, ◌<◌, ◌≤◌, ◌+◌, ◌-◌, ◌*◌, ℕ, Option, Some, None, Bool, true, false, length}
 use Rattle.std.proofs.Common.{zero, suc}
-use Rattle.lk_abs.specs.History.{LockHistory}
-use Rattle.lk_abs.specs.declared.names.LockName.{LockName}
-use Rattle.lk_abs.specs.declared.events.Act.{Act}
-use Rattle.lk_abs.specs.declared.events.Event.{Event}
-use Rattle.lk_abs.specs.declared.events.Act.TheVariants.{Step, Preempt, Resume}
+use Rattle.lk_names.specs.History.{LockHistory}
+use Rattle.lk_names.specs.declared.names.LockName.{LockName}
+use Rattle.lk_names.specs.declared.events.Act.{Act}
+use Rattle.lk_names.specs.declared.events.Event.{Event}
+use Rattle.lk_names.specs.declared.events.Act.TheVariants.{Step, Preempt, Resume}
 use Rattle.std.specs.Prelude.{if◌then◌else◌, nat_lt}
 use Rattle.lk_rows.specs.Machine.{handlers_at}
 use Rattle.lk_rows.specs.Programs.{handlers_of, program_at}
@@ -19,7 +19,7 @@ use Rattle.lk_rows.specs.Acts.{next}
 use Rattle.lk_law.specs.Agree.{halts}
 use Rattle.lk_law.specs.Cna.{moves_aside}
 use Rattle.lk_law.specs.Sound.{ShowsAll, world}
-use Rattle.lk_abs.specs.declared.names.Mode.{Mode}
+use Rattle.lk_names.specs.declared.names.Mode.{Mode}
 use Rattle.lk_progress.specs.Measure.{left_in, most_rows, is_turn, turn_of}
 use Rattle.lk_progress.specs.Spots.{TurnsOnTheSpot}
 

@@ -6,8 +6,8 @@ ghost use Rattle.lk_rows.specs.rows.Pv.{is_hashed, is_slow_byte};
 ghost use Rattle.lk_pv.specs.Row.{IsPvReady};
 
 use crate::word::{after_turn, known};
-use lk_abs::{Event, How, What};
 use lk_machine::Machine;
+use lk_names::{Event, How, What};
 use lk_rows::{Frame, Pc, State, is_unlocked, named};
 use lk_word::{Fields, Locked};
 

@@ -6,8 +6,8 @@ ghost use Rattle.lk_rows.specs.TopRow.{row};
 ghost use Rattle.lk_pv.specs.Row.{IsPvReady};
 
 use crate::word::{is_halted, known};
-use lk_abs::{Event, What};
 use lk_machine::Machine;
+use lk_names::{Event, What};
 use lk_rows::{Flag, Pc, State, is_last, named};
 use lk_word::Locked;
 

@@ -4,8 +4,8 @@ ghost use Rattle.lk_rows.specs.Machine.{top_frame};
 ghost use Rattle.lk_rows.specs.TopRow.{row};
 ghost use Rattle.lk_pv.specs.Row.{IsPvReady};
 
-use lk_abs::{Event, What};
 use lk_machine::Machine;
+use lk_names::{Event, What};
 use lk_rows::{Frame, Pc, is_held, named};
 use lk_word::Locked;
 

@@ -7,8 +7,8 @@ ghost use Rattle.lk_rows.specs.TopRow.{row};
 ghost use Rattle.lk_pv.specs.Row.{IsPvReady};
 
 use crate::{front, hand, release, steal, wait};
-use lk_abs::Event;
 use lk_machine::Machine;
+use lk_names::Event;
 use lk_rows::Pc;
 
 /// Makes the row at which the newest frame of a processor stands, one of H1, H2, W1 to W7, E1 to

@@ -5,8 +5,8 @@ ghost use Rattle.lk_rows.specs.TopRow.{row};
 ghost use Rattle.lk_rows.specs.rows.Pv.{after_given_up, after_glance};
 ghost use Rattle.lk_pv.specs.Row.{IsPvReady};
 
-use lk_abs::{Event, How, What};
 use lk_machine::Machine;
+use lk_names::{Event, How, What};
 use lk_rows::{Frame, Pc, is_unlocked};
 use lk_word::{Fields, Locked, NodeName};
 

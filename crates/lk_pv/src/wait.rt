@@ -6,8 +6,8 @@ ghost use Rattle.lk_rows.specs.rows.Pv.{is_running, is_set};
 ghost use Rattle.lk_pv.specs.Row.{IsPvReady};
 
 use crate::word::{after_turn, is_halted};
-use lk_abs::{Event, What};
 use lk_machine::Machine;
+use lk_names::{Event, What};
 use lk_rows::{Flag, Frame, Pc, State, named};
 
 // Whether a flag is set.

@@ -1,11 +1,11 @@
 -- A table runs by the plan of a domain whose waiters halt.
 use Rattle.std.proofs.Common.{◌≡◌, ℕ, zero, suc, length, Option, refl, sym, ap, ◌∙◌, get_or, true, arith}
 use Rattle.std.specs.declared.snapshot.Snapshot.{Snapshot}
-use Rattle.lk_abs.specs.ListOf.{ListOf}
+use Rattle.lk_names.specs.ListOf.{ListOf}
 use Rattle.std.specs.Prelude.{replicate}
 use Rattle.std.specs.List.{sum}
-use Rattle.lk_abs.specs.declared.names.Kind.TheVariants.{Spin}
-use Rattle.lk_abs.specs.declared.names.Mode.{Mode}
+use Rattle.lk_names.specs.declared.names.Kind.TheVariants.{Spin}
+use Rattle.lk_names.specs.declared.names.Mode.{Mode}
 use Rattle.lk_law.specs.Agree.{halts}
 use Rattle.lk_domain.specs.Plans.{IsRunningPlan, turns_of, turns_by}
 use Rattle.lk_domain.specs.Values.{Key}

@@ -14,9 +14,9 @@ use crate::call::Queued;
 use crate::exchanges::{Swap, Tail};
 use crate::rest::Stealing;
 use crate::{nodes, states, tries, words};
-use lk_abs::LockName;
 use lk_domain::moves::{Arrival, WordUse};
 use lk_domain::{Link, Part, Right, moves, node_moves};
+use lk_names::LockName;
 use lk_rows::is_unlocked;
 use lk_word::{Fields, NodeName, low_byte, without_low_byte};
 

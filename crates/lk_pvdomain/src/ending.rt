@@ -1,14 +1,14 @@
 // The end of a domain whose waiters halt.
 ghost use Rattle.std.specs.Prelude.{◌≡◌, Err, IfOk, length};
-ghost use Rattle.lk_abs.specs.Journal.{balances_after};
+ghost use Rattle.lk_names.specs.Journal.{balances_after};
 ghost use Rattle.lk_domain.specs.Ends.{IsFinal};
 ghost use Rattle.lk_domain.specs.Plans.{cpus_of};
 ghost use Rattle.lk_domain.specs.Values.{AreLaid};
 ghost use Rattle.lk_pvdomain.specs.PvSeats.{AllRest};
 
 use crate::domain::{PvCpu, PvDomain};
-use lk_abs::List;
 use lk_domain::{CloseBack, Closed, close};
+use lk_names::List;
 use std::alloc::Global;
 
 /// What a domain leaves when it is closed.

@@ -6,9 +6,9 @@ ghost use Rattle.lk_pvdomain.specs.PvSeats.{AreDealt};
 
 use crate::domain::{PvCpu, PvDomain};
 use crate::plan::PvPlan;
-use lk_abs::{List, Memory};
 use lk_cell::Key;
 use lk_domain::Domain;
+use lk_names::{List, Memory};
 use std::alloc::Global;
 use std::snapshot::Snapshot;
 

@@ -2,8 +2,8 @@
 ghost use Rattle.std.specs.Prelude.{IfOk};
 ghost use Rattle.lk_pvdomain.specs.PvPlans.{IsLawful, IsPlanOf};
 
-use lk_abs::{Format, Kind, List, Memory, Mode, Topology};
 use lk_domain::Plan;
+use lk_names::{Format, Kind, List, Memory, Mode, Topology};
 use std::alloc::Global;
 
 /// The plan of a [`PvDomain`](crate::PvDomain): what it is made of.

@@ -9,9 +9,9 @@ ghost use Rattle.lk_domain.specs.Uses.{UsesWord, frees};
 ghost use Rattle.lk_pvdomain.specs.PvPaths.{IsOn, IsSeat};
 ghost use Rattle.lk_pvdomain.specs.PvPlays.{AtLast};
 
-use lk_abs::LockName;
 use lk_domain::moves::WordUse;
 use lk_domain::{Domain, Right, WordSteps, moves};
+use lk_names::LockName;
 use lk_word::{HELD, NodeName};
 
 // A row on the word, by a call that goes on.

@@ -8,8 +8,8 @@ ghost use Rattle.lk_rows.specs.TopRow.{row, on_word};
 ghost use Rattle.lk_rows.specs.rows.Queue.{own_node, after_entry, entry_counts, takes_out, after_arrival, after_link};
 ghost use Rattle.lk_queue.specs.Row.{HasOwn, frame_after};
 
-use lk_abs::{Event, How, Mode, What};
 use lk_machine::Machine;
+use lk_names::{Event, How, Mode, What};
 use lk_rows::{Counts, Flag, Frame, HELD, Pc, is_free, named};
 use lk_word::NodeName;
 

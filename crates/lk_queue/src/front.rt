@@ -6,8 +6,8 @@ ghost use Rattle.lk_rows.specs.TopRow.{row};
 ghost use Rattle.lk_rows.specs.rows.Queue.{after_head};
 
 use crate::arrive::take_out;
-use lk_abs::{Event, How, Mode, What};
 use lk_machine::Machine;
+use lk_names::{Event, How, Mode, What};
 use lk_rows::{Flag, Pc, after_look, is_sole, named};
 use lk_word::Locked;
 

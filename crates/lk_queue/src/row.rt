@@ -7,8 +7,8 @@ ghost use Rattle.lk_machine.specs.Ready.{IsReady};
 ghost use Rattle.lk_rows.specs.TopRow.{row};
 
 use crate::{arrive, front};
-use lk_abs::Event;
 use lk_machine::Machine;
+use lk_names::Event;
 use lk_rows::Pc;
 
 /// Makes the row at which the newest frame of a processor stands, one of G1 to G11, N1 and N2.

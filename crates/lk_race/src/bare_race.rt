@@ -1,6 +1,6 @@
 // A race for a lock with nothing under it.
 ghost use Rattle.std.specs.Prelude.{◌≡◌, false};
-ghost use Rattle.lk_abs.specs.declared.names.Kind.TheVariants.{Rw, Spin};
+ghost use Rattle.lk_names.specs.declared.names.Kind.TheVariants.{Rw, Spin};
 ghost use Rattle.lk_law.specs.Agree.{halts};
 ghost use Rattle.lk_domain.specs.Plans.{kind_at, locks_of};
 ghost use Rattle.lk_lock.specs.Standing.{Rests};
@@ -8,8 +8,8 @@ ghost use Rattle.lk_lock.specs.Standing.{Rests};
 use crate::course::{Course, is_write};
 use crate::plan::LOCK;
 use crate::track::Track;
-use lk_abs::{Kind, Mode};
 use lk_domain::{Cpu, Domain};
+use lk_names::{Kind, Mode};
 use lk_run::{NoIrq, lock, read_lock, read_unlock, unlock, write_lock, write_unlock};
 use std::sync::Wait;
 

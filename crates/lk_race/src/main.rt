@@ -38,9 +38,9 @@ mod words;
 
 use bare_race::{BareRace, BareRwTrack, BareTrack};
 use course::Course;
-use lk_abs::{Kind, List, Memory};
 use lk_domain::{Domain, close};
 use lk_lock::{Locks, Open};
+use lk_names::{Kind, List, Memory};
 use lk_pvdomain::{PvDomain, pv_close};
 use mutex_race::{MutexRace, take_all_mutex_turns};
 use plan::{plan_of, pv_plan_of, two_sockets};

@@ -3,7 +3,7 @@
 use crate::course::Course;
 use crate::spin_race::Size;
 use crate::value::Value;
-use lk_abs::Memory;
+use lk_names::Memory;
 use std::alloc::Global;
 use std::sync::{Mutex, Wait};
 use std::thread;

@@ -6,8 +6,8 @@ ghost use Rattle.lk_pvdomain.specs.PvPlans.{IsLawful};
 
 use crate::course::Course;
 use crate::pv_bare_race::PvBareRace;
-use lk_abs::{Format, Kind, List, Memory, Mode, Topology};
 use lk_domain::{LockId, Plan};
+use lk_names::{Format, Kind, List, Memory, Mode, Topology};
 use lk_pvdomain::PvPlan;
 use std::alloc::Global;
 

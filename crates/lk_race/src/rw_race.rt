@@ -1,6 +1,6 @@
 // A race for a reader-writer lock whose value readers share.
 ghost use Rattle.std.specs.Prelude.{◌≡◌, false};
-ghost use Rattle.lk_abs.specs.declared.names.Kind.TheVariants.{Spin as spinning};
+ghost use Rattle.lk_names.specs.declared.names.Kind.TheVariants.{Spin as spinning};
 ghost use Rattle.lk_law.specs.Agree.{halts};
 ghost use Rattle.lk_lock.specs.Cells.{names_of};
 ghost use Rattle.lk_lock.specs.Standing.{IsSharedUnder, IsUnder, Rests};
@@ -8,8 +8,8 @@ ghost use Rattle.lk_lock.specs.Standing.{IsSharedUnder, IsUnder, Rests};
 use crate::course::{Course, is_write};
 use crate::track::{Track, ValueTrack};
 use crate::value::{Numbers, Value};
-use lk_abs::{Memory, Mode};
 use lk_lock::{Cpu, Domain, Seat, Shared, Spin};
+use lk_names::{Memory, Mode};
 use std::alloc::Global;
 use std::sync::Wait;
 

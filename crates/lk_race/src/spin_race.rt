@@ -1,13 +1,13 @@
 // A race for a spinlock with a value.
 ghost use Rattle.std.specs.Prelude.{◌≤◌};
-ghost use Rattle.lk_abs.specs.declared.names.Kind.TheVariants.{Spin as spinning};
+ghost use Rattle.lk_names.specs.declared.names.Kind.TheVariants.{Spin as spinning};
 ghost use Rattle.lk_lock.specs.Standing.{IsUnder, Rests};
 
 use crate::course::Course;
 use crate::track::{Track, ValueTrack};
 use crate::value::{Numbers, Value};
-use lk_abs::{Memory, Mode};
 use lk_lock::{Cpu, Domain, Seat, Spin};
+use lk_names::{Memory, Mode};
 use std::alloc::Global;
 use std::sync::Wait;
 

@@ -3,7 +3,7 @@ ghost use Rattle.std.specs.Prelude.{◌≡◌, ℕ, length};
 ghost use Rattle.lk_race.specs.Tracks.{AllRest};
 
 use crate::value::Numbers;
-use lk_abs::{List, Memory};
+use lk_names::{List, Memory};
 use std::alloc::Global;
 use std::rt::Clock;
 use std::sync::Wait;

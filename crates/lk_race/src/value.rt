@@ -1,6 +1,6 @@
 // What lies under a lock.
 
-use lk_abs::Memory;
+use lk_names::Memory;
 use std::alloc::Global;
 use std::slice;
 

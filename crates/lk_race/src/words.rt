@@ -8,7 +8,7 @@ use crate::mutex_race::MutexRace;
 use crate::pv_bare_race::PvBareRace;
 use crate::rw_race::RwRace;
 use crate::spin_race::{Size, SpinRace};
-use lk_abs::{Kind, Mode};
+use lk_names::{Kind, Mode};
 use std::env::{self, Env};
 
 // How many turns a waiter spins before it halts, if no argument says it.

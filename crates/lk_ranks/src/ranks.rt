@@ -1,6 +1,6 @@
 // The locks of a program, each with its value and its rank.
 ghost use Rattle.std.specs.Prelude.{◌≡◌, ◌+◌, ◌<◌, ◌≤◌, [], IfOk, length, true, replicate};
-ghost use Rattle.lk_abs.specs.declared.names.Kind.TheVariants.{Rw as shared, Spin as spinning};
+ghost use Rattle.lk_names.specs.declared.names.Kind.TheVariants.{Rw as shared, Spin as spinning};
 ghost use Rattle.lk_domain.specs.Plans.{cpus_of};
 ghost use Rattle.lk_domain.specs.declared.plan.TheConstants.{MOST_CPUS, MOST_LOCKS};
 ghost use Rattle.lk_law.specs.Agree.{halts};
@@ -12,8 +12,8 @@ ghost use Rattle.lk_lock.specs.Standing.{AllRest};
 use crate::rw::RankedRw;
 use crate::shared::RankedShared;
 use crate::spin::RankedSpin;
-use lk_abs::{Memory, Mode, Topology};
 use lk_lock::{Locks, Open};
+use lk_names::{Memory, Mode, Topology};
 use std::alloc::Global;
 
 /// Locks to be made, at most 4,096, each with a rank, and how many threads will take them. A lock ranks

@@ -1,7 +1,7 @@
 // A reader-writer lock with a rank.
 ghost use Rattle.std.specs.Prelude.{◌≡◌, IfSome, MatchOption, false};
 ghost use Rattle.std.specs.Fn.{FnOnceReturnsAtMut};
-ghost use Rattle.lk_abs.specs.declared.names.Kind.TheVariants.{Rw as shared};
+ghost use Rattle.lk_names.specs.declared.names.Kind.TheVariants.{Rw as shared};
 ghost use Rattle.lk_domain.specs.Calls.{holds_in, terms_of};
 ghost use Rattle.lk_domain.specs.Paths.{HasMissed};
 ghost use Rattle.lk_lock.specs.Ended.{HasKeyOf, KeepsOthers};

@@ -4,7 +4,7 @@ use Rattle.std.proofs.Common.{get_or, set, length-set}
 use Rattle.std.proofs.lemmas.Bool.{cases_eq}
 use Rattle.std.proofs.lemmas.Option.{slice_get-get_or, slice_get_within}
 use Rattle.std.specs.Prelude.{slice_get}
-use Rattle.lk_abs.proofs.ByIndex.{get-append, get-append_new}
+use Rattle.lk_names.proofs.ByIndex.{get-append, get-append_new}
 use Rattle.lk_reach.specs.declared.book.Book.{Book}
 use Rattle.lk_reach.specs.Edges.{away_in, edges_in, one_away}
 use Rattle.lk_reach.specs.Explored.{AddsThen, AreColumns, AreEmpty, LeadsTo}

@@ -4,7 +4,7 @@ use Rattle.std.specs.Prelude.{unwrap_or, if◌then◌else◌}
 use Rattle.std.proofs.lemmas.Bool.{cases_eq}
 use Rattle.std.proofs.lemmas.Option.{slice_get_within, slice_get-get_or}
 use Rattle.std.proofs.lemmas.List.{ext_get_or}
-use Rattle.lk_abs.proofs.ByIndex.{get-append, get-append_new}
+use Rattle.lk_names.proofs.ByIndex.{get-append, get-append_new}
 use Rattle.lk_rows.specs.declared.parts.Frame.{Frame}
 use Rattle.lk_rows.specs.Machine.{Machine, CpuState, cpu_at, depth_at, frame_at, node_at, no_cpu, rest_frame, rest_node, set_cpu, set_node, set_top, top_frame}
 use Rattle.lk_machine.specs.Parts.{SharedValue}

@@ -3,13 +3,13 @@ use Rattle.std.proofs.Common.{◌≡◌, ℕ, zero, suc, ◌<◌, ◌≤◌, ◌
 use Rattle.std.proofs.lemmas.Bool.{cases_lt, cases_eq}
 use Rattle.std.proofs.lemmas.Option.{slice_get_within}
 use Rattle.std.specs.Prelude.{slice_get}
-use Rattle.lk_abs.specs.declared.events.Act.{Act}
+use Rattle.lk_names.specs.declared.events.Act.{Act}
 use Rattle.lk_rows.specs.declared.setup.Setup.{Setup}
 use Rattle.lk_rows.specs.Machine.{Machine, set_counts, rest_counts}
 use Rattle.lk_rows.specs.declared.parts.Counts.{Counts}
 use Rattle.lk_law.specs.Sound.{IsSound}
-use Rattle.lk_abs.specs.declared.events.Event.{Event}
-use Rattle.lk_abs.proofs.ByIndex.{get_cases}
+use Rattle.lk_names.specs.declared.events.Event.{Event}
+use Rattle.lk_names.proofs.ByIndex.{get_cases}
 use Rattle.lk_rows.specs.Acts.{next}
 use Rattle.lk_reach.specs.declared.book.Book.{Book}
 use Rattle.lk_reach.specs.declared.origin.Origin.{Origin}

@@ -6,7 +6,7 @@ use Rattle.std.proofs.lemmas.List.{get_or_append_left}
 use Rattle.std.proofs.lemmas.Option.{slice_get_past}
 use Rattle.std.proofs.Math.Seq.{get_or-append_seam}
 use Rattle.std.specs.Prelude.{slice_get}
-use Rattle.lk_abs.proofs.ByIndex.{get-append_new}
+use Rattle.lk_names.proofs.ByIndex.{get-append_new}
 use Rattle.lk_reach.specs.declared.numbers.fours.Fours.{Fours}
 use Rattle.lk_reach.specs.Numbers.{Pads, Puts, PutsFour, firsts, joined, listed, lower_halves, none, nth, upper_halves}
 

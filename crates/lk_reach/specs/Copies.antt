@@ -1,6 +1,6 @@
 -- Copies of a setup, with room for what it has and no more.
 use Rattle.std.specs.Prelude.{List, length, map}
-use Rattle.lk_abs.specs.ListOf.{ListOf}
+use Rattle.lk_names.specs.ListOf.{ListOf}
 use Rattle.lk_rows.specs.declared.setup.Setup.{Setup}
 
 -- a list of these items, with room for no more

@@ -1,6 +1,6 @@
 -- How the states of a graph end.
 use Rattle.std.specs.Prelude.{◌≡◌, ◌≢◌, ◌<◌, ◌≤◌, ◌⊎◌, ℕ, Bool, true, false, not, List, length, slice_get, Some}
-use Rattle.lk_abs.specs.declared.events.Act.{Act}
+use Rattle.lk_names.specs.declared.events.Act.{Act}
 use Rattle.lk_rows.specs.Machine.{Machine, CpuState}
 use Rattle.lk_machine.specs.Parts.{is_over}
 use Rattle.lk_reach.specs.declared.book.Book.{Book}

@@ -1,8 +1,8 @@
 -- What an exploration knows: which states it has met, by how many acts, and which of them it has left
 -- by every act.
 use Rattle.std.specs.Prelude.{◌≡◌, ◌≢◌, ◌<◌, ◌≤◌, ◌+◌, ◌++◌, ◌∷◌, [], ◌⊎◌, ℕ, true, List, length, slice_get, slice_index_or, slice_set, Option, Some}
-use Rattle.lk_abs.specs.declared.events.Act.{Act}
-use Rattle.lk_abs.specs.declared.events.Event.{Event}
+use Rattle.lk_names.specs.declared.events.Act.{Act}
+use Rattle.lk_names.specs.declared.events.Event.{Event}
 use Rattle.lk_rows.specs.declared.setup.Setup.{Setup}
 use Rattle.lk_rows.specs.Machine.{Machine, rest_counts}
 use Rattle.lk_rows.specs.Acts.{next}

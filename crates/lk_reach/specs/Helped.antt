@@ -1,6 +1,6 @@
 -- Helpers: what they find while nobody writes, which stays so when more is met.
 use Rattle.std.specs.Prelude.{◌≡◌, ◌<◌, ◌≤◌, ◌⊎◌, ◌++◌, ◌∷◌, ℕ, List, Option, [], length, slice_get, slice_index_or, Some}
-use Rattle.lk_abs.specs.declared.events.Act.{Act}
+use Rattle.lk_names.specs.declared.events.Act.{Act}
 use Rattle.lk_rows.specs.declared.setup.Setup.{Setup}
 use Rattle.lk_rows.specs.Acts.{next}
 use Rattle.lk_rows.specs.Machine.{Machine}

@@ -1,6 +1,6 @@
 -- The acts by which a state was first met.
 use Rattle.std.specs.Prelude.{◌≡◌, ◌<◌, [], ◌∷◌, ℕ, List, length, slice_get, Some}
-use Rattle.lk_abs.specs.declared.events.Act.{Act}
+use Rattle.lk_names.specs.declared.events.Act.{Act}
 use Rattle.lk_reach.specs.declared.book.Book.{Book}
 use Rattle.lk_reach.specs.declared.origin.Origin.{Origin}
 use Rattle.lk_reach.specs.declared.plan.Plan.{Plan}

@@ -1,6 +1,6 @@
 -- Processors that are alike.
 use Rattle.std.specs.Prelude.{◌≡◌, ℕ, List, if◌then◌else◌, length, nat_lt, slice_get, slice_index_or, Some}
-use Rattle.lk_abs.specs.ListOf.{ListOf}
+use Rattle.lk_names.specs.ListOf.{ListOf}
 use Rattle.lk_rows.specs.declared.setup.Op.{Op}
 use Rattle.lk_rows.specs.declared.setup.Setup.{Setup}
 use Rattle.lk_rows.specs.Programs.{program_at, handlers_of}

@@ -1,6 +1,6 @@
 -- On which states an act that is sought is made.
 use Rattle.std.specs.Prelude.{◌≡◌, ◌<◌, ℕ, List, length, slice_get, Some}
-use Rattle.lk_abs.specs.declared.events.Act.{Act}
+use Rattle.lk_names.specs.declared.events.Act.{Act}
 use Rattle.lk_rows.specs.declared.setup.Setup.{Setup}
 use Rattle.lk_rows.specs.Acts.{processor_of}
 use Rattle.lk_rows.specs.Machine.{Machine}

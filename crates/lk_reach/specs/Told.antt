@@ -1,7 +1,7 @@
 -- What a graph tells: of the states, and of the schedules that lead to them.
 use Rattle.std.specs.Prelude.{◌≡◌, ◌<◌, ◌≤◌, ◌++◌, ◌∷◌, [], ℕ, List, length, slice_get, Some}
-use Rattle.lk_abs.specs.declared.events.Act.{Act}
-use Rattle.lk_abs.specs.declared.events.Event.{Event}
+use Rattle.lk_names.specs.declared.events.Act.{Act}
+use Rattle.lk_names.specs.declared.events.Event.{Event}
 use Rattle.lk_rows.specs.Acts.{next}
 use Rattle.lk_rows.specs.Machine.{Machine}
 use Rattle.lk_rows.specs.declared.parts.Pc.{Pc}

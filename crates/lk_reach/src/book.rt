@@ -10,7 +10,7 @@ use crate::column::Column;
 use crate::kinds::{KINDS, kind_of};
 use crate::origin::Origin;
 use crate::origins::Origins;
-use lk_abs::{Event, Memory};
+use lk_names::{Event, Memory};
 use std::alloc::Global;
 
 // An origin has room for the numbers of so many states, acts of a plan and levels.

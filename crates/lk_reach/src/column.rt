@@ -5,7 +5,7 @@ ghost use Rattle.lk_reach.specs.Numbers.{listed, place_at};
 
 use crate::numbers::places::Places;
 use crate::table::MOST;
-use lk_abs::Memory;
+use lk_names::Memory;
 use std::alloc::Global;
 use std::marker::Model;
 

@@ -5,7 +5,7 @@ ghost use Rattle.std.specs.Prelude.{◌≡◌, IfOk, map};
 ghost use Rattle.lk_rows.specs.Programs.{IsLawfulSetup};
 ghost use Rattle.lk_reach.specs.Copies.{full, tight, tight_lists, tight_setup};
 
-use lk_abs::{List, Memory, Topology};
+use lk_names::{List, Memory, Topology};
 use lk_rows::{Op, Setup};
 use std::alloc::Global;
 

@@ -9,9 +9,9 @@ ghost use Rattle.lk_reach.specs.Explored.{IsSuch};
 use crate::kinds::kind_of;
 use crate::making::{make, no_counts};
 use crate::space::is_row;
-use lk_abs::{Act, Event};
 use lk_core::act;
 use lk_machine::Machine;
+use lk_names::{Act, Event};
 use lk_rows::{Counts, Pc};
 
 /// What an act does.

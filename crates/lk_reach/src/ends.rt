@@ -6,8 +6,8 @@ ghost use Rattle.lk_reach.specs.Explored.{LeadsTo};
 ghost use Rattle.lk_reach.specs.Told.{IsGraph, IsWhole};
 
 use crate::graph::{Graph, add_mark};
-use lk_abs::Memory;
 use lk_core::{acts_change_little, runs_keep};
+use lk_names::Memory;
 use std::alloc::Global;
 
 /// Marks a state, or a part of one, if there is one with this number.

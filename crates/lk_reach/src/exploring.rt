@@ -1,7 +1,7 @@
 // The exploration.
 
 ghost use Rattle.std.specs.Prelude.{◌≡◌, ◌<◌, ◌≤◌, ◌+◌, ℕ, List, IfOk, OnOk, Some, length, slice_get, true, false};
-ghost use Rattle.lk_abs.specs.declared.events.Act.{Act as ActValue};
+ghost use Rattle.lk_names.specs.declared.events.Act.{Act as ActValue};
 ghost use Rattle.lk_rows.specs.Acts.{next};
 ghost use Rattle.lk_rows.specs.Machine.{Machine as MachineValue};
 ghost use Rattle.lk_reach.specs.Path.{AreLow, IsPath};
@@ -28,9 +28,9 @@ use crate::plan::Plan;
 use crate::space::Space;
 use crate::spot::Spot;
 use crate::table::MOST;
-use lk_abs::{Act, Event, Memory};
 use lk_core::{acts_change_little, runs_keep};
 use lk_machine::Machine;
+use lk_names::{Act, Event, Memory};
 use std::alloc::Global;
 use std::thread::Threads;
 

@@ -14,8 +14,8 @@ use crate::plan::Plan;
 use crate::sorting::order_of;
 use crate::space::Space;
 use crate::spot::Spot;
-use lk_abs::{Act, Memory};
 use lk_machine::Machine;
+use lk_names::{Act, Memory};
 
 /// The state that is left.
 #[derive(Drop)]

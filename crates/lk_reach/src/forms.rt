@@ -7,9 +7,9 @@ ghost use Rattle.lk_idle.specs.Free.{freed_node, is_owned, owns};
 ghost use Rattle.lk_reach.specs.Space.{HasForm, IsFront, Rests};
 
 use crate::table::CpuTable;
-use lk_abs::Memory;
 use lk_idle::rested;
 use lk_machine::{MAX_FRAMES, MAX_NODES, Machine};
+use lk_names::Memory;
 use lk_rows::{Flag, Node};
 use lk_word::NodeName;
 use std::alloc::Global;

@@ -2,7 +2,7 @@
 // and writes nothing of it, so it gives no numbers.
 
 use crate::key::Key;
-use lk_abs::Event;
+use lk_names::Event;
 
 /// Where an act led.
 #[derive(Clone, Copy)]

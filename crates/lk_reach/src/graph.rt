@@ -12,9 +12,9 @@ use crate::book::Book;
 use crate::kinds::KINDS;
 use crate::plan::Plan;
 use crate::space::{Space, is_row};
-use lk_abs::Memory;
 use lk_core::{acts_change_little, runs_keep};
 use lk_machine::Machine;
+use lk_names::Memory;
 use lk_rows::Pc;
 use std::alloc::Global;
 

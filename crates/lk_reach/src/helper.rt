@@ -17,8 +17,8 @@ use crate::plan::Plan;
 use crate::space::Space;
 use crate::spot::{Led, Spot, lead};
 use crate::steps::Steps;
-use lk_abs::Memory;
 use lk_machine::Machine;
+use lk_names::Memory;
 use lk_rows::Setup;
 use std::alloc::Global;
 

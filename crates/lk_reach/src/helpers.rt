@@ -12,7 +12,7 @@ ghost use Rattle.lk_reach.specs.Helped.{AreFresh, AreReady, HasLooked, IsReady};
 use crate::helper::Helper;
 use crate::plan::Plan;
 use crate::space::Space;
-use lk_abs::Memory;
+use lk_names::Memory;
 use lk_rows::Setup;
 use std::alloc::Global;
 use std::thread;

@@ -8,7 +8,7 @@ use crate::key::Key;
 use crate::numbers::Numbers;
 use crate::numbers::fours::Fours;
 use crate::table::MOST;
-use lk_abs::Memory;
+use lk_names::Memory;
 use std::alloc::Global;
 use std::marker::Model;
 

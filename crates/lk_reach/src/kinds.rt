@@ -3,7 +3,7 @@
 ghost use Rattle.std.specs.Prelude.{◌≡◌, ◌<◌};
 ghost use Rattle.lk_reach.specs.Kinds.{kind_value};
 
-use lk_abs::{How, RwHow, What};
+use lk_names::{How, RwHow, What};
 
 /// How many kinds of events there are.
 pub const KINDS: usize = 33;

@@ -1,14 +1,14 @@
 // Schedules to the ends of a graph.
 
 ghost use Rattle.std.specs.Prelude.{◌≡◌, ◌≢◌, ℕ, IfNone, IfOk, IfSome, List, Some, slice_get, true};
-ghost use Rattle.lk_abs.specs.declared.events.Act.{Act as ActValue};
+ghost use Rattle.lk_names.specs.declared.events.Act.{Act as ActValue};
 ghost use Rattle.lk_reach.specs.Ends.{IsFirst, IsShortestToDoom, IsShortestToEnd, IsWayToStuck, NobodyIsDoomed};
 ghost use Rattle.lk_reach.specs.Reach.{AreMoves, AreOver, state_after};
 ghost use Rattle.lk_reach.specs.Told.{IsGraph, IsWhole};
 
 use crate::graph::Graph;
-use lk_abs::{Act, Memory};
 use lk_core::{acts_change_little, runs_keep};
+use lk_names::{Act, Memory};
 use std::alloc::Global;
 
 // The first mark that is set.

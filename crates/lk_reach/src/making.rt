@@ -7,9 +7,9 @@ ghost use Rattle.lk_law.specs.Sound.{IsSound};
 ghost use Rattle.lk_reach.specs.Reach.{after};
 ghost use Rattle.lk_reach.specs.Explored.{IsSuch};
 
-use lk_abs::{Act, Event};
 use lk_core::act;
 use lk_machine::Machine;
+use lk_names::{Act, Event};
 use lk_rows::Counts;
 
 /// Nothing counted.

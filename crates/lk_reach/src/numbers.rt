@@ -8,7 +8,7 @@ mod padded;
 pub(crate) mod places;
 
 use crate::numbers::padded::{item_at, put_item};
-use lk_abs::Memory;
+use lk_names::Memory;
 use std::alloc::Global;
 
 /// A number at each position, which is 0 where none was put. Of its bytes the lowest stand in one

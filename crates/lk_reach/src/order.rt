@@ -7,7 +7,7 @@ ghost use Rattle.lk_reach.specs.Peers.{number_of};
 
 use crate::key::MAX_CPUS;
 use crate::peers::Peers;
-use lk_abs::Act;
+use lk_names::Act;
 
 /// New numbers of processors.
 #[derive(Clone, Copy)]

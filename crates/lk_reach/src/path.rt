@@ -5,7 +5,7 @@ ghost use Rattle.lk_reach.specs.Path.{AreLow, IsBefore, IsPath};
 
 use crate::book::Book;
 use crate::plan::Plan;
-use lk_abs::{Act, Memory};
+use lk_names::{Act, Memory};
 use std::alloc::Global;
 
 // Puts an act before others.

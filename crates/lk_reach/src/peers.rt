@@ -5,7 +5,7 @@ ghost use Rattle.lk_rows.specs.Programs.{IsLawfulSetup};
 ghost use Rattle.lk_reach.specs.Peers.{AreFirsts, HasSameHandlers, IsPeer};
 
 use crate::key::MAX_CPUS;
-use lk_abs::List;
+use lk_names::List;
 use lk_rows::{Op, Setup};
 
 /// Which processors of a setup are alike.

@@ -1,7 +1,7 @@
 // The acts that are tried on each state.
 
 ghost use Rattle.std.specs.Prelude.{◌≡◌, ◌<◌, ◌++◌, ◌∷◌, [], IfOk, OnOk, ℕ, length, slice_get, Some, true};
-ghost use Rattle.lk_abs.specs.declared.events.Act.TheVariants as act;
+ghost use Rattle.lk_names.specs.declared.events.Act.TheVariants as act;
 ghost use Rattle.lk_rows.specs.Acts.{processor_of};
 ghost use Rattle.lk_rows.specs.Machine.{handlers_at};
 ghost use Rattle.lk_rows.specs.Programs.{HasPrograms, IsLawfulSetup, handlers_of};
@@ -13,9 +13,9 @@ ghost use Rattle.lk_reach.specs.Peers.{AreFirsts};
 
 use crate::making::make;
 use crate::peers::Peers;
-use lk_abs::{Act, Memory};
 use lk_core::{acts_change_little, runs_keep};
 use lk_machine::Machine;
+use lk_names::{Act, Memory};
 use std::alloc::Global;
 
 /// The acts that are explored beside steps and interrupts.

@@ -3,7 +3,7 @@
 //
 // As of other slots, nothing is claimed of these but that each call ends.
 
-use lk_abs::Memory;
+use lk_names::Memory;
 use std::alloc::Global;
 
 // How many slots there are, half of which may be taken.

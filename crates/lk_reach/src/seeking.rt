@@ -11,9 +11,9 @@ use crate::deeds::{Sought, is_sought};
 use crate::graph::Graph;
 use crate::plan::Plan;
 use crate::space::Space;
-use lk_abs::{Act, Memory};
 use lk_core::{acts_change_little, runs_keep};
 use lk_machine::Machine;
+use lk_names::{Act, Memory};
 use std::alloc::Global;
 
 // Whether an act on a state is sought. The machine is any of its setup afterwards.

@@ -4,7 +4,7 @@
 // what a slot leads to with what it seeks. So a wrong slot could cost a second number for the same
 // thing, and never a wrong answer.
 
-use lk_abs::Memory;
+use lk_names::Memory;
 use std::alloc::Global;
 
 // How many slots a new table has.

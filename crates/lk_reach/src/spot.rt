@@ -2,7 +2,7 @@
 // making it.
 
 ghost use Rattle.std.specs.Prelude.{◌≡◌, ◌<◌, ◌≤◌, IfSome, length};
-ghost use Rattle.lk_abs.specs.declared.events.Act.TheVariants as act;
+ghost use Rattle.lk_names.specs.declared.events.Act.TheVariants as act;
 ghost use Rattle.lk_rows.specs.Acts.{processor_of};
 ghost use Rattle.lk_reach.specs.declared.steps.Made.{Made as MadeValue};
 ghost use Rattle.lk_reach.specs.Explored.{IsSuch};
@@ -14,8 +14,8 @@ use crate::making::make;
 use crate::space::Space;
 use crate::steps::{Made, Steps};
 use crate::touch::touched_by;
-use lk_abs::{Act, Event};
 use lk_machine::Machine;
+use lk_names::{Act, Event};
 
 /// The state that is left, by its number, its key, and the hash by which that is sought.
 #[derive(Clone, Copy)]

@@ -6,7 +6,7 @@ ghost use Rattle.std.specs.Prelude.{◌≡◌, ◌<◌, [], IfSome, Some, slice_
 ghost use Rattle.lk_reach.specs.Steps.{Begins, IsFoundStep, MayForget, MayRemember, then_key};
 
 use crate::key::Key;
-use lk_abs::Event;
+use lk_names::Event;
 use std::alloc::Global;
 
 // How many steps are remembered at most, and how many at first. Each has two places, and takes that of the

@@ -4,8 +4,8 @@ ghost use Rattle.std.specs.Prelude.{◌≡◌, IfOk, IfSome, Some, true, slice_g
 ghost use Rattle.lk_reach.specs.Space.{IsFront, HasShared};
 
 use crate::slots::Slots;
-use lk_abs::Memory;
 use lk_machine::{CpuState, Machine, Shared};
+use lk_names::Memory;
 use std::alloc::Global;
 
 /// The most numbers of a table, so that each fits a slot.

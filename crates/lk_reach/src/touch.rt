@@ -1,12 +1,12 @@
 // Whom an act touches on a machine.
 
 ghost use Rattle.std.specs.Prelude.{◌≡◌, ◌<◌, IfSome, length};
-ghost use Rattle.lk_abs.specs.declared.events.Act.TheVariants as act;
+ghost use Rattle.lk_names.specs.declared.events.Act.TheVariants as act;
 ghost use Rattle.lk_rows.specs.Acts.{processor_of};
 ghost use Rattle.lk_touch.specs.Touching.{Touches};
 
-use lk_abs::Act;
 use lk_machine::{MAX_FRAMES, Machine};
+use lk_names::Act;
 use lk_touch::other_at;
 
 // The other processor that a step touches, or the same one, if that is known.

@@ -1,7 +1,7 @@
 // Shortest schedules to what a graph tells of.
 
 ghost use Rattle.std.specs.Prelude.{◌≡◌, ◌≢◌, ◌<◌, ◌∷◌, IfNone, IfOk, IfSome, List, OnOk, Some, length, slice_get};
-ghost use Rattle.lk_abs.specs.declared.events.Act.{Act as ActValue};
+ghost use Rattle.lk_names.specs.declared.events.Act.{Act as ActValue};
 ghost use Rattle.lk_reach.specs.declared.origin.Origin.{Origin as OriginValue};
 ghost use Rattle.lk_reach.specs.Reach.{AreMoves, MakesRow, state_after};
 ghost use Rattle.lk_reach.specs.Told.{IsGraph, IsNever, IsShortestToEvent, IsShortestToRow, IsWay, IsWhole};
@@ -10,8 +10,8 @@ use crate::graph::Graph;
 use crate::origin::Origin;
 use crate::path::path_to;
 use crate::plan::add;
-use lk_abs::{Act, Memory};
 use lk_core::{acts_change_little, runs_keep};
+use lk_names::{Act, Memory};
 use lk_rows::Pc;
 use std::alloc::Global;
 

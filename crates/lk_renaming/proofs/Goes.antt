@@ -1,8 +1,8 @@
 -- The renamed act on the renamed machine does what the act does, renamed.
 use Rattle.std.proofs.Common.{◌≡◌, ℕ, ◌+◌, Some, None, Bool, true, false, ap, refl, ◌∙◌}
 use Rattle.std.specs.Prelude.{if◌then◌else◌, ◌||◌, ◌&&◌, not, nat_le}
-use Rattle.lk_abs.specs.declared.events.Act.TheVariants as act
-use Rattle.lk_abs.specs.declared.events.What.TheVariants as what
+use Rattle.lk_names.specs.declared.events.Act.TheVariants as act
+use Rattle.lk_names.specs.declared.events.What.TheVariants as what
 use Rattle.lk_rows.specs.declared.parts.Frame.{Frame}
 use Rattle.lk_rows.specs.Machine.{Machine, top_frame, preempted_at, halted_at, kicked_at}
 use Rattle.lk_rows.specs.Machine.{set_cpu, set_top, set_halted, set_kicked, set_preempted}

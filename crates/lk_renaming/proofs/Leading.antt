@@ -3,7 +3,7 @@ use Rattle.std.proofs.Common.{◌≡◌, ℕ, ◌+◌, ◌-◌, Option, Some, No
 use Rattle.std.proofs.Common.{map, ap, refl, ◌∙◌, slice_get}
 use Rattle.std.specs.Prelude.{if◌then◌else◌, ◌==◌, drop}
 use Rattle.std.proofs.Common.{suc}
-use Rattle.lk_abs.specs.declared.events.What.TheVariants.{Pass}
+use Rattle.lk_names.specs.declared.events.What.TheVariants.{Pass}
 use Rattle.lk_rows.specs.declared.setup.Op.{Op}
 use Rattle.lk_rows.specs.declared.parts.Frame.{Frame}
 use Rattle.lk_rows.specs.declared.parts.Pc.{Pc}

@@ -1,7 +1,7 @@
 -- The rows of the paravirtual lock, renamed.
 use Rattle.std.proofs.Common.{◌≡◌, ℕ, ◌-◌, Option, Some, None, Bool, true, [], ◌∷◌, refl}
 use Rattle.std.specs.Prelude.{◌==◌, ◌&&◌, not, if◌then◌else◌}
-use Rattle.lk_abs.specs.declared.events.What.TheVariants as what
+use Rattle.lk_names.specs.declared.events.What.TheVariants as what
 use Rattle.lk_word.specs.declared.spin_word.NodeName.{NodeName}
 use Rattle.lk_word.specs.declared.spin_word.Locked.TheVariants.{Free}
 use Rattle.lk_word.specs.declared.spin_word.Fields.{Fields}

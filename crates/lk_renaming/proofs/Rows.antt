@@ -1,7 +1,7 @@
 -- Each row does on the renamed machine what it does, renamed.
 use Rattle.std.proofs.Common.{◌≡◌, ℕ, Option, Some, None, true, ap, refl, sym, ◌∙◌, subst}
 use Rattle.std.specs.Prelude.{◌||◌, ◌==◌, is_some}
-use Rattle.lk_abs.specs.Lawful.{is_local, stays}
+use Rattle.lk_names.specs.Lawful.{is_local, stays}
 use Rattle.lk_word.specs.declared.spin_word.NodeName.{NodeName}
 use Rattle.lk_rows.specs.declared.setup.Setup.{Setup}
 use Rattle.lk_rows.specs.declared.parts.Node.{Node}

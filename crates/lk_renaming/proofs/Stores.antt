@@ -1,7 +1,7 @@
 -- What a row stores, renamed.
 use Rattle.std.proofs.Common.{◌≡◌, ℕ, Option, Some, None, Bool, ap, refl, ◌∙◌}
 use Rattle.std.specs.Prelude.{option_map}
-use Rattle.lk_abs.specs.declared.names.LockName.{LockName}
+use Rattle.lk_names.specs.declared.names.LockName.{LockName}
 use Rattle.lk_word.specs.declared.spin_word.NodeName.{NodeName}
 use Rattle.lk_word.specs.declared.spin_word.Fields.{Fields}
 use Rattle.lk_word.specs.declared.rw_word.RwFields.{RwFields}

@@ -1,6 +1,6 @@
 -- The laws: a machine goes on as the renamed machine does, act by act and in whole schedules.
 use Rattle.std.specs.Prelude.{◌≡◌, ℕ, List, length}
-use Rattle.lk_abs.specs.declared.events.Act.{Act}
+use Rattle.lk_names.specs.declared.events.Act.{Act}
 use Rattle.lk_rows.specs.declared.setup.Setup.{Setup}
 use Rattle.lk_rows.specs.Machine.{Machine, top_frame, depth_at, preempted_at, halted_at}
 use Rattle.lk_rows.specs.Programs.{IsLawfulSetup}

@@ -1,6 +1,6 @@
 -- What the answers of a replay exclude, since a text says one thing; and a replay in two parts.
 use Rattle.std.proofs.Common.{◌≡◌, ◌≢◌, IsOk, ◌⊎◌, ◌≤◌, ℕ, List, Option, Some, Result, Ok, Err, IsOkUnless, IsErrAnd, refl, sym, ap, ◌∙◌, subst, inl, inr, arith}
-use Rattle.lk_abs.specs.declared.events.Act.{Act}
+use Rattle.lk_names.specs.declared.events.Act.{Act}
 use Rattle.lk_text.specs.Causes.{Rose}
 use Rattle.lk_rows.specs.declared.setup.Setup.{Setup}
 use Rattle.lk_forms.specs.Trace.{Trace, Good, Refused, Says, trace}

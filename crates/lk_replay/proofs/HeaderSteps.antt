@@ -1,7 +1,7 @@
 -- What one line more of a header comes to.
 use Rattle.std.proofs.Common.{true, false, ◌≡◌, ◌≤◌, ◌+◌, ◌++◌, ℕ, List, [], ◌∷◌, Option, None, Some, Ok, Err, length, inl, inr, sym, ap, ◌∙◌, subst, refl, arith, if◌then◌else◌}
 use Rattle.std.proofs.lemmas.Bool.{ne_eqb}
-use Rattle.lk_abs.specs.declared.events.Act.{Act}
+use Rattle.lk_names.specs.declared.events.Act.{Act}
 use Rattle.lk_text.specs.Feeds.{pieces}
 use Rattle.lk_text.specs.Reader.{pending, lines_given, is_ended, IsFresh, GaveLine, MetEnd, GaveFault}
 use Rattle.lk_text.specs.declared.reader.LineReader.{LineReader}

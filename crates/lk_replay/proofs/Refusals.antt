@@ -4,7 +4,7 @@ use Rattle.std.proofs.lemmas.Bool.Decides.{nat_tests}
 use Rattle.std.proofs.lemmas.List.{map-append}
 use Rattle.std.proofs.lemmas.List.Sums.{fold-append}
 use Rattle.std.specs.Result.{result_err, result_unwrap_or}
-use Rattle.lk_abs.specs.declared.events.Act.{Act}
+use Rattle.lk_names.specs.declared.events.Act.{Act}
 use Rattle.lk_text.specs.Feeds.{line_of}
 use Rattle.lk_forms.specs.Grammar.{Reading, read, scheduled, cpus_of, has_go, has_end, next_reading, nothing_read, reading_of}
 use Rattle.lk_forms.specs.Schedule.{IsInSchedule, SaysNext, schedule_of}

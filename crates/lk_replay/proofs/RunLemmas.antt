@@ -3,8 +3,8 @@ use Rattle.std.proofs.Common.{◌≡◌, ◌+◌, ◌++◌, ◌≤◌, ◌<◌, 
 use Rattle.std.specs.Int.{from_bool}
 use Rattle.std.proofs.lemmas.List.{replicate-append-replicate, length-append}
 use Rattle.std.proofs.lemmas.List.Concat.{flat_map-append}
-use Rattle.lk_abs.specs.declared.events.Act.{Act}
-use Rattle.lk_abs.specs.declared.events.Event.{Event}
+use Rattle.lk_names.specs.declared.events.Act.{Act}
+use Rattle.lk_names.specs.declared.events.Event.{Event}
 use Rattle.lk_text.specs.Bytes.{AppendsFront, Conveys}
 use Rattle.lk_text.proofs.Conveyed.{Conveys-trans, front_of_conveyed, front_of_more}
 use Rattle.lk_forms.specs.Texts.{lines}

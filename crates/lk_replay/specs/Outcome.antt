@@ -1,8 +1,8 @@
 -- What each answer of a replay means, by what is seen of its source and its sink before it and after it.
 use Rattle.std.specs.Prelude.{◌≡◌, ℕ, List, Result, Ok, Err, length}
 use Rattle.std.specs.Io.KnownBytes.{Appends, Consumes, IsAtEnd, Keeps}
-use Rattle.lk_abs.specs.declared.events.Act.{Act}
-use Rattle.lk_abs.specs.Lawful.{IsLawful}
+use Rattle.lk_names.specs.declared.events.Act.{Act}
+use Rattle.lk_names.specs.Lawful.{IsLawful}
 use Rattle.lk_text.specs.Causes.{Rose}
 use Rattle.lk_text.specs.Bytes.{AppendsFront}
 use Rattle.lk_rows.specs.declared.setup.Setup.{Setup}

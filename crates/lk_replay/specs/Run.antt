@@ -1,7 +1,7 @@
 -- A run on its way.
 use Rattle.std.specs.Prelude.{◌≡◌, ◌≤◌, ◌+◌, List, ◌++◌, length}
-use Rattle.lk_abs.specs.declared.events.Act.{Act}
-use Rattle.lk_abs.specs.declared.events.Event.{Event}
+use Rattle.lk_names.specs.declared.events.Act.{Act}
+use Rattle.lk_names.specs.declared.events.Event.{Event}
 use Rattle.lk_rows.specs.Run.{Occurrence, at_rest, history_from, machine_after, events_of}
 use Rattle.lk_law.specs.Sound.{IsSound}
 use Rattle.lk_law.specs.MachineLaws.{ShowsLawful}

@@ -1,6 +1,6 @@
 -- What a line of the schedule says.
 use Rattle.std.specs.Prelude.{Bool, true, false, List, [], replicate}
-use Rattle.lk_abs.specs.declared.events.Act.{Act}
+use Rattle.lk_names.specs.declared.events.Act.{Act}
 use Rattle.lk_forms.specs.declared.answers.Sched.{Sched}
 use Rattle.lk_forms.specs.declared.answers.Sched.TheVariants.{Blank, Run, End}
 

@@ -2,7 +2,7 @@
 -- what the source has left of it; `held` and `held_now` are what the sink held when the replay began and holds now.
 use Rattle.std.specs.Prelude.{Bool, true, false, ◌≡◌, ℕ, ◌≤◌, ◌+◌, if◌then◌else◌, List, [], ◌++◌, Option, None, Result, Ok, Err, IfErr, ⊤}
 use Rattle.std.specs.Io.KnownBytes.{IsAtEnd, Consumes}
-use Rattle.lk_abs.specs.declared.events.Act.{Act}
+use Rattle.lk_names.specs.declared.events.Act.{Act}
 use Rattle.lk_text.specs.Causes.{Rose}
 use Rattle.lk_text.specs.Bytes.{AppendsFront, Conveys}
 use Rattle.lk_text.specs.Block.{waiting}

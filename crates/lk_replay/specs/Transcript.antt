@@ -1,6 +1,6 @@
 -- What is written for a run.
 use Rattle.std.specs.Prelude.{ℕ, List, ◌++◌, length}
-use Rattle.lk_abs.specs.declared.events.Act.{Act}
+use Rattle.lk_names.specs.declared.events.Act.{Act}
 use Rattle.lk_rows.specs.declared.setup.Setup.{Setup}
 use Rattle.lk_rows.specs.declared.parts.Counts.{Counts}
 use Rattle.lk_rows.specs.Run.{Occurrence, at_rest, history, machine_after}

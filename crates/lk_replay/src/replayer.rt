@@ -1,6 +1,6 @@
 // A replay whose header was read.
 ghost use Rattle.std.specs.Prelude.{◌≡◌, ◌≤◌, ℕ, List, Option, Some, IfOk, IfErr, IsOk, IsErrAnd};
-ghost use Rattle.lk_abs.specs.declared.events.Act.{Act};
+ghost use Rattle.lk_names.specs.declared.events.Act.{Act};
 ghost use Rattle.lk_rows.specs.declared.setup.Setup.{Setup};
 ghost use Rattle.lk_text.specs.Causes.{Rose};
 ghost use Rattle.lk_forms.specs.Trace.{Good, Refused, trace};

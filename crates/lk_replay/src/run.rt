@@ -8,10 +8,10 @@ ghost use Rattle.lk_rows.specs.Acts.{next, processor_of};
 ghost use Rattle.lk_rows.specs.Run.{occurs};
 ghost use Rattle.lk_forms.specs.Texts.{lines};
 
-use lk_abs::{Act, Event, Memory};
 use lk_core::rest_shows;
 use lk_forms::write_event;
 use lk_machine::Machine;
+use lk_names::{Act, Event, Memory};
 use lk_rows::Setup;
 use lk_text::{Block, Sink, WriteFault};
 use std::alloc::Global;

@@ -1,6 +1,6 @@
 // A replay, from bytes to bytes.
 ghost use Rattle.std.specs.Prelude.{◌≡◌, ◌⊎◌, ℕ, List, Some, Err, IsOkUnless, IsErrAnd};
-ghost use Rattle.lk_abs.specs.declared.events.Act.{Act};
+ghost use Rattle.lk_names.specs.declared.events.Act.{Act};
 ghost use Rattle.lk_rows.specs.declared.setup.Setup.{Setup};
 ghost use Rattle.lk_text.specs.Causes.{Rose};
 ghost use Rattle.lk_forms.specs.Trace.{Good, Refused, trace};

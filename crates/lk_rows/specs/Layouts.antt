@@ -1,6 +1,6 @@
 -- The layout of the lock words of a format.
-use Rattle.lk_abs.specs.declared.names.Format.{Format}
-use Rattle.lk_abs.specs.declared.names.Format.TheVariants.{One, Two}
+use Rattle.lk_names.specs.declared.names.Format.{Format}
+use Rattle.lk_names.specs.declared.names.Format.TheVariants.{One, Two}
 use Rattle.lk_word.specs.declared.spin_word.Layout.{Layout}
 use Rattle.lk_word.specs.declared.spin_word.Layout.TheVariants.{Narrow, Wide}
 

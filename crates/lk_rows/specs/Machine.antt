@@ -2,9 +2,9 @@
 use Rattle.std.specs.Prelude.{Some, ◌+◌, ◌-◌, ◌<◌, ◌≤◌, ℕ, Option, None, Bool, false, List, [], ◌∷◌}
 use Rattle.std.specs.Prelude.{◌++◌, length, take, slice_get, slice_index_or, slice_set}
 use Rattle.std.specs.Prelude.{◌*◌, if◌then◌else◌, nat_lt, unwrap_or}
-use Rattle.lk_abs.specs.Names.{same_lock}
-use Rattle.lk_abs.specs.declared.names.Waiter.{Waiter}
-use Rattle.lk_abs.specs.declared.names.LockName.{LockName}
+use Rattle.lk_names.specs.Names.{same_lock}
+use Rattle.lk_names.specs.declared.names.Waiter.{Waiter}
+use Rattle.lk_names.specs.declared.names.LockName.{LockName}
 use Rattle.lk_word.specs.declared.spin_word.NodeName.{NodeName}
 use Rattle.lk_word.specs.declared.spin_word.Locked.TheVariants.{Free}
 use Rattle.lk_word.specs.declared.spin_word.Fields.{Fields}

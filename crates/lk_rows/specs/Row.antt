@@ -2,9 +2,9 @@
 -- that it meets there it says what it stores, where it leads, what it tells and what it counts. One
 -- general application makes the row on a machine of it.
 use Rattle.std.specs.Prelude.{◌+◌, ℕ, Option, Some, None, Bool, false, List, [], ◌∷◌}
-use Rattle.lk_abs.specs.declared.events.Event.{Event}
-use Rattle.lk_abs.specs.declared.events.What.{What}
-use Rattle.lk_abs.specs.declared.events.What.TheVariants.{Pass}
+use Rattle.lk_names.specs.declared.events.Event.{Event}
+use Rattle.lk_names.specs.declared.events.What.{What}
+use Rattle.lk_names.specs.declared.events.What.TheVariants.{Pass}
 use Rattle.lk_word.specs.declared.spin_word.NodeName.{NodeName}
 use Rattle.lk_rows.specs.declared.parts.Counts.{Counts}
 use Rattle.lk_rows.specs.declared.parts.Frame.{Frame}

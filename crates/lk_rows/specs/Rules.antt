@@ -1,5 +1,5 @@
 -- What the laws of histories read of a setup.
-use Rattle.lk_abs.specs.Lawful.{Rules}
+use Rattle.lk_names.specs.Lawful.{Rules}
 use Rattle.lk_rows.specs.declared.setup.Setup.{Setup}
 
 abbrev pub rules_of : Setup → Rules

@@ -1,7 +1,7 @@
 -- The row of the top frame of a processor.
 use Rattle.std.specs.Prelude.{ℕ, Option, Some, None, Bool}
-use Rattle.lk_abs.specs.Lawful.{is_local}
-use Rattle.lk_abs.specs.declared.names.LockName.{LockName}
+use Rattle.lk_names.specs.Lawful.{is_local}
+use Rattle.lk_names.specs.declared.names.LockName.{LockName}
 use Rattle.lk_word.specs.declared.spin_word.NodeName.{NodeName}
 use Rattle.lk_word.specs.declared.spin_word.Fields.{Fields}
 use Rattle.lk_word.specs.declared.rw_word.RwFields.{RwFields}

@@ -1,6 +1,6 @@
 // The nodes, the counts, the rows and the frames of a machine.
 
-use lk_abs::LockName;
+use lk_names::LockName;
 use lk_word::NodeName;
 
 /// What a paravirtual waiter says of its processor, for others to read (Linux's

@@ -1,6 +1,6 @@
 // What a machine is made of.
 
-use lk_abs::{Format, Kind, List, Mode, Topology};
+use lk_names::{Format, Kind, List, Mode, Topology};
 
 /// What an operation does to its lock.
 #[derive(Clone, Copy, Debug, PartialEq, Eq)]

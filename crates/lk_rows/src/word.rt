@@ -9,7 +9,7 @@ ghost use Rattle.lk_rows.specs.rows.Spin.{after_fast, after_pending, to_queue};
 ghost use Rattle.lk_rows.specs.rows.Spin.{is_free, is_unlocked};
 
 use crate::parts::{Frame, Pc};
-use lk_abs::Mode;
+use lk_names::Mode;
 use lk_word::{Fields, Locked, NodeName};
 
 /// The word `0,0,1`: a waiter holds the lock, nobody pends and nobody queues.

@@ -1,7 +1,7 @@
 -- Where the rows of a head that chooses its successor lead, by what they meet.
 use Rattle.std.proofs.Common.{◌≡◌, ℕ, IfSome, Option, Some, None, Bool, true, false, refl, sym, ap, ◌∙◌, subst, [], ◌∷◌}
 use Rattle.std.specs.Prelude.{if◌then◌else◌, ◌&&◌, not}
-use Rattle.lk_abs.specs.declared.names.Mode.{Mode}
+use Rattle.lk_names.specs.declared.names.Mode.{Mode}
 use Rattle.lk_word.specs.declared.spin_word.NodeName.{NodeName}
 use Rattle.lk_word.specs.declared.spin_word.Fields.{Fields}
 use Rattle.lk_rows.specs.declared.parts.Flag.{Flag}

@@ -2,8 +2,8 @@
 use Rattle.std.proofs.Common.{◌≡◌, ◌≢◌, ℕ, ◌<◌, ◌≤◌, Option, Some, None, Bool, true, false, refl, sym, ◌∙◌, subst}
 use Rattle.std.proofs.lemmas.Bool.{lt-ltb, le-ltb}
 use Rattle.std.specs.Prelude.{if◌then◌else◌, ◌&&◌, not, nat_lt, is_some}
-use Rattle.lk_abs.specs.declared.names.Mode.{Mode}
-use Rattle.lk_abs.specs.declared.names.Mode.TheVariants.{Virt, Native, Cna, Pv}
+use Rattle.lk_names.specs.declared.names.Mode.{Mode}
+use Rattle.lk_names.specs.declared.names.Mode.TheVariants.{Virt, Native, Cna, Pv}
 use Rattle.lk_word.specs.declared.spin_word.NodeName.{NodeName}
 use Rattle.lk_word.specs.declared.spin_word.Fields.{Fields}
 use Rattle.lk_rows.specs.declared.parts.Flag.{Flag}

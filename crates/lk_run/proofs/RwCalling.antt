@@ -1,6 +1,6 @@
 -- What a row does to a reader or a writer that waits, and rows that follow each other.
 use Rattle.std.proofs.Common.{◌≡◌, ℕ, Option, Some, None, Bool, true}
-use Rattle.lk_abs.specs.declared.holder.Manner.{Manner}
+use Rattle.lk_names.specs.declared.holder.Manner.{Manner}
 use Rattle.lk_rows.specs.Moves.{wait_name}
 use Rattle.lk_rows.specs.declared.parts.Frame.{Frame}
 use Rattle.lk_rows.specs.declared.parts.Pc.{Pc}

@@ -1,8 +1,8 @@
 -- What a step call on the word of a reader-writer lock asks of a call, and what it does to it.
 use Rattle.std.proofs.Common.{◌≡◌, inl, inr, ℕ, ◌≢◌, List, length, Option, Some, None, Bool, true, false, eqb, eq-eqb, ne_eqb, refl, ap, ◌∙◌, subst, arith}
 use Rattle.std.specs.Prelude.{if◌then◌else◌}
-use Rattle.lk_abs.specs.declared.holder.Manner.{Manner}
-use Rattle.lk_abs.specs.declared.names.LockName.{LockName}
+use Rattle.lk_names.specs.declared.holder.Manner.{Manner}
+use Rattle.lk_names.specs.declared.names.LockName.{LockName}
 use Rattle.lk_rows.specs.Moves.{first_place, wait_name}
 use Rattle.lk_rows.specs.Programs.{kind_of}
 use Rattle.lk_rows.specs.declared.parts.Frame.{Frame}

@@ -1,10 +1,10 @@
 -- What a step of a processor does to a try of a reader or a writer, and to a release of one.
 use Rattle.std.proofs.Common.{◌≡◌, ℕ, ◌+◌, ◌<◌, [], ◌∷◌, ◌++◌, length, Some, None, Bool, true, false, refl, sym, ap, ◌∙◌, subst}
 use Rattle.std.specs.Prelude.{if◌then◌else◌}
-use Rattle.lk_abs.specs.declared.holder.Manner.{Manner}
-use Rattle.lk_abs.specs.declared.holder.Manner.TheVariants.{Reads, Writes}
-use Rattle.lk_abs.specs.declared.names.Kind.TheVariants.{Rw}
-use Rattle.lk_abs.specs.declared.names.LockName.{LockName}
+use Rattle.lk_names.specs.declared.holder.Manner.{Manner}
+use Rattle.lk_names.specs.declared.holder.Manner.TheVariants.{Reads, Writes}
+use Rattle.lk_names.specs.declared.names.Kind.TheVariants.{Rw}
+use Rattle.lk_names.specs.declared.names.LockName.{LockName}
 use Rattle.lk_word.specs.declared.rw_word.RwFields.{RwFields}
 use Rattle.lk_rows.specs.Moves.{first_place}
 use Rattle.lk_rows.specs.declared.parts.Frame.{Frame}

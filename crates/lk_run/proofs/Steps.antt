@@ -1,13 +1,13 @@
 -- What a step of a processor does to a call.
 use Rattle.std.proofs.Common.{◌≡◌, ℕ, ◌<◌, List, [], ◌∷◌, ◌++◌, Bool, true, false, eqb, refl, sym, ap, ◌∙◌, subst, arith}
 use Rattle.std.proofs.Common.{◌||◌}
-use Rattle.lk_abs.specs.declared.holder.Manner.{Manner}
-use Rattle.lk_abs.specs.declared.holder.Manner.TheVariants.{Spins}
-use Rattle.lk_abs.specs.declared.names.LockName.{LockName}
+use Rattle.lk_names.specs.declared.holder.Manner.{Manner}
+use Rattle.lk_names.specs.declared.holder.Manner.TheVariants.{Spins}
+use Rattle.lk_names.specs.declared.names.LockName.{LockName}
 use Rattle.lk_rows.specs.declared.parts.Pc.{Pc}
 use Rattle.lk_rows.specs.declared.setup.Verb.{Verb}
 use Rattle.lk_rows.specs.declared.setup.Verb.TheVariants.{Try}
-use Rattle.lk_abs.specs.declared.names.Kind.TheVariants.{Spin}
+use Rattle.lk_names.specs.declared.names.Kind.TheVariants.{Spin}
 use Rattle.lk_domain.specs.Plans.{kind_at}
 use Rattle.lk_domain.specs.Calls.{terms_of, Mark, Calls, Takes, lock_name}
 use Rattle.lk_domain.specs.Ledgers.{Ledger, Look, turned}

@@ -1,7 +1,7 @@
 -- How a call of `write_lock` waits: where it rests, and with what of its lock. The domain and the
 -- number of the lock come first.
 use Rattle.std.specs.Prelude.{ℕ, ◌<◌, Option, None}
-use Rattle.lk_abs.specs.declared.holder.Manner.TheVariants.{Writes}
+use Rattle.lk_names.specs.declared.holder.Manner.TheVariants.{Writes}
 use Rattle.lk_rows.specs.Moves.{wait_name}
 use Rattle.lk_rows.specs.declared.parts.Pc.TheVariants.{F1, Wr5}
 use Rattle.lk_rows.specs.declared.setup.Verb.TheVariants.{Write}

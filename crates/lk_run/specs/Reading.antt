@@ -1,7 +1,7 @@
 -- What a row or a turn does to a reader: the words of `Waiters` and `Turns`.
 use Rattle.std.specs.Prelude.{◌≡◌, ℕ, Bool, true, false, length, Option}
-use Rattle.lk_abs.specs.declared.holder.Manner.TheVariants.{Reads}
-use Rattle.lk_abs.specs.declared.names.LockName.{LockName}
+use Rattle.lk_names.specs.declared.holder.Manner.TheVariants.{Reads}
+use Rattle.lk_names.specs.declared.names.LockName.{LockName}
 use Rattle.lk_rows.specs.declared.parts.Pc.TheVariants.{F1, R2, R3, R4, R5}
 use Rattle.lk_rows.specs.declared.setup.Verb.TheVariants.{Read}
 use Rattle.lk_domain.specs.Paths.{Any}

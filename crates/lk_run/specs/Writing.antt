@@ -1,7 +1,7 @@
 -- What a row or a turn does to a writer: the words of `Waiters` and `Turns`.
 use Rattle.std.specs.Prelude.{◌≡◌, ℕ, Bool, true, false, Option}
-use Rattle.lk_abs.specs.declared.holder.Manner.TheVariants.{Writes}
-use Rattle.lk_abs.specs.declared.names.LockName.{LockName}
+use Rattle.lk_names.specs.declared.holder.Manner.TheVariants.{Writes}
+use Rattle.lk_names.specs.declared.names.LockName.{LockName}
 use Rattle.lk_rows.specs.Moves.{wait_name}
 use Rattle.lk_rows.specs.declared.parts.Pc.TheVariants.{F1, Wr2, Wr5}
 use Rattle.lk_rows.specs.declared.setup.Verb.TheVariants.{Write}

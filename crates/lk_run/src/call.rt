@@ -7,8 +7,8 @@ ghost use Rattle.lk_domain.specs.Plans.{locks_of};
 ghost use Rattle.lk_domain.specs.Words.{IsNode};
 ghost use Rattle.lk_run.specs.Phases.{Queues};
 
-use lk_abs::LockName;
 use lk_domain::Domain;
+use lk_names::LockName;
 use lk_rows::Verb;
 use lk_word::NodeName;
 

@@ -1,7 +1,7 @@
 // A reader or a writer that queues for the wait lock of its lock, and frees it again. The comments
 // show the word of the wait lock as (queue tail, pending, locked).
 ghost use Rattle.std.specs.Prelude.{◌≡◌, ◌≢◌, Option, ℕ, true};
-ghost use Rattle.lk_abs.specs.declared.holder.Manner.{Manner};
+ghost use Rattle.lk_names.specs.declared.holder.Manner.{Manner};
 ghost use Rattle.lk_rows.specs.declared.parts.Pc.TheVariants.{F1};
 ghost use Rattle.lk_law.specs.Sound.{takes_wait};
 ghost use Rattle.lk_domain.specs.Paths.{Any};

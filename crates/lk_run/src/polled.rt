@@ -1,8 +1,8 @@
 // A call of `lock` in turns, for those that may not wait in a loop of ours: a caller from another
 // language, a test that drives each turn, a loop that waits for more than a lock.
 ghost use Rattle.std.specs.Prelude.{◌≡◌, ◌<◌, Bool, None, Some};
-ghost use Rattle.lk_abs.specs.declared.holder.Manner.TheVariants.{Spins};
-ghost use Rattle.lk_abs.specs.declared.names.Kind.TheVariants.{Spin};
+ghost use Rattle.lk_names.specs.declared.holder.Manner.TheVariants.{Spins};
+ghost use Rattle.lk_names.specs.declared.names.Kind.TheVariants.{Spin};
 ghost use Rattle.lk_rows.specs.declared.setup.Verb.TheVariants.{Lock};
 ghost use Rattle.lk_domain.specs.Plans.{locks_of, kind_at};
 ghost use Rattle.lk_domain.specs.Seats.{IsOf, KeepsRest, calls_of};
@@ -15,8 +15,8 @@ ghost use Rattle.lk_run.specs.declared.waiter.Waiter.{Waiter};
 use crate::call::Call;
 use crate::spin::fast;
 use crate::waiter::{Arrival, Waiter};
-use lk_abs::LockName;
 use lk_domain::{Cpu, Domain, LockId};
+use lk_names::LockName;
 use lk_rows::Verb;
 
 /// Begins a call of `lock`. `None` says that the processor holds the lock. Else the call waits, and

@@ -1,7 +1,7 @@
 // A call of `write_lock` in turns, as `polled` has one of `lock`. A turn makes rows up to the next
 // failed poll, and there the call rests. `writing` shows the rows.
 ghost use Rattle.std.specs.Prelude.{◌≡◌, ◌<◌, ℕ, Bool, Option, None, Some};
-ghost use Rattle.lk_abs.specs.declared.names.Kind.TheVariants.{Rw};
+ghost use Rattle.lk_names.specs.declared.names.Kind.TheVariants.{Rw};
 ghost use Rattle.lk_domain.specs.Plans.{locks_of, kind_at};
 ghost use Rattle.lk_domain.specs.Seats.{IsOf, KeepsRest, calls_of};
 ghost use Rattle.lk_domain.specs.Waits.{MayTake};
@@ -17,8 +17,8 @@ use crate::call::{Call, Writer};
 use crate::rest::Rest;
 use crate::write_waiter::{WritePlace, WriteWaiter};
 use crate::writing::first;
-use lk_abs::LockName;
 use lk_domain::{Cpu, Domain, LockId};
+use lk_names::LockName;
 use lk_rows::Verb;
 
 /// Begins a call of `write_lock`. `None` says that the processor holds the lock, as its writer. Else

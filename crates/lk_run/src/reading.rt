@@ -11,8 +11,8 @@
 //   interrupted  R2 looks until (r, w, 0) --- it has come in
 //
 ghost use Rattle.std.specs.Prelude.{◌≡◌, ◌≢◌, ◌<◌, true, false, Some, length};
-ghost use Rattle.lk_abs.specs.declared.holder.Manner.TheVariants.{Reads};
-ghost use Rattle.lk_abs.specs.declared.names.Kind.TheVariants.{Rw};
+ghost use Rattle.lk_names.specs.declared.holder.Manner.TheVariants.{Reads};
+ghost use Rattle.lk_names.specs.declared.names.Kind.TheVariants.{Rw};
 ghost use Rattle.lk_rows.specs.declared.parts.Pc.TheVariants.{R2, R3, R4, R5, Y2, Y3, Z1};
 ghost use Rattle.lk_rows.specs.declared.setup.Verb.TheVariants.{Read, TryRead};
 ghost use Rattle.lk_domain.specs.Calls.{Calls, lock_name, way_in};
@@ -31,8 +31,8 @@ ghost use Rattle.lk_run.specs.Waiters.{At, Steps, Looks, Gets};
 use crate::call::Reader;
 use crate::irq::{Irq, give_way};
 use crate::pacing::Pace;
-use lk_abs::LockName;
 use lk_domain::{Cpu, Domain, LockId, steps};
+use lk_names::LockName;
 use lk_rows::Verb;
 use lk_word::{has_no_writer, lets_readers_in};
 use std::sync::Wait;

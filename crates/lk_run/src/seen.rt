@@ -1,14 +1,14 @@
 // What a queue head sees behind itself that chooses its successor.
 ghost use Rattle.std.specs.Prelude.{◌≡◌, ◌<◌, ◌||◌, ℕ, Option, Some, IfSome};
-ghost use Rattle.lk_abs.specs.Lawful.{same_socket};
+ghost use Rattle.lk_names.specs.Lawful.{same_socket};
 ghost use Rattle.lk_rows.specs.Searching.{first_by, more_by};
 ghost use Rattle.lk_domain.specs.Calls.{sight_by, sight_of, stays_by, terms_of};
 ghost use Rattle.lk_law.specs.Leads.{Linked};
 ghost use Rattle.lk_domain.specs.Plans.{cpus_of};
 ghost use Rattle.lk_domain.specs.Words.{IsNode};
 
-use lk_abs::Format;
 use lk_domain::Domain;
+use lk_names::Format;
 use lk_rows::{First, More};
 use lk_word::NodeName;
 

@@ -1,7 +1,7 @@
 // The calls on a spinlock. The comments show a word as (queue tail, pending, locked).
 ghost use Rattle.std.specs.Prelude.{◌≡◌, ◌≢◌, ◌<◌, Bool, Option, ℕ, true, false, None, length};
-ghost use Rattle.lk_abs.specs.declared.holder.Manner.TheVariants.{Spins};
-ghost use Rattle.lk_abs.specs.declared.names.Kind.TheVariants.{Spin};
+ghost use Rattle.lk_names.specs.declared.holder.Manner.TheVariants.{Spins};
+ghost use Rattle.lk_names.specs.declared.names.Kind.TheVariants.{Spin};
 ghost use Rattle.lk_rows.specs.declared.parts.Pc.TheVariants.{T2};
 ghost use Rattle.lk_rows.specs.declared.setup.Verb.TheVariants.{Lock, Try};
 ghost use Rattle.lk_domain.specs.Calls.{terms_of, Calls, holds_in, lock_name};
@@ -17,8 +17,8 @@ ghost use Rattle.lk_run.specs.Turns.{Begun, Earns};
 
 use crate::call::Call;
 use crate::irq::Irq;
-use lk_abs::LockName;
 use lk_domain::{Cpu, Domain, LockId, steps};
+use lk_names::LockName;
 use lk_rows::Verb;
 use std::sync::Wait;
 

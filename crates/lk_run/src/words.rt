@@ -8,7 +8,7 @@ ghost use Rattle.lk_domain.specs.Plans.{IsRunningPlan};
 ghost use Rattle.lk_domain.specs.Words.{IsNode, flag_number, name_number, marked};
 ghost use Rattle.lk_domain.specs.declared.plan.Plan.{Plan};
 
-use lk_abs::Mode;
+use lk_names::Mode;
 use lk_rows::Flag;
 use lk_word::{MARK, NodeName, node_of_name};
 

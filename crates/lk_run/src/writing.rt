@@ -11,8 +11,8 @@
 //                    Wr6 takes it ----------- it has the lock, U1 frees the wait lock
 //
 ghost use Rattle.std.specs.Prelude.{◌≡◌, ◌<◌, true, false, None, Some, length};
-ghost use Rattle.lk_abs.specs.declared.holder.Manner.TheVariants.{Writes};
-ghost use Rattle.lk_abs.specs.declared.names.Kind.TheVariants.{Rw};
+ghost use Rattle.lk_names.specs.declared.holder.Manner.TheVariants.{Writes};
+ghost use Rattle.lk_names.specs.declared.names.Kind.TheVariants.{Rw};
 ghost use Rattle.lk_rows.specs.declared.parts.Pc.TheVariants.{Wr2, Wr3, Wr4, Wr5, Wr6, Y5, Z2};
 ghost use Rattle.lk_rows.specs.declared.setup.Verb.TheVariants.{Write, TryWrite};
 ghost use Rattle.lk_domain.specs.Calls.{lock_name, way_in, Calls};
@@ -31,8 +31,8 @@ ghost use Rattle.lk_run.specs.Writing.{BeginsToWrite, inside, Passed};
 use crate::call::Writer;
 use crate::irq::{Irq, give_way};
 use crate::pacing::Pace;
-use lk_abs::LockName;
 use lk_domain::{Cpu, Domain, LockId, steps};
+use lk_names::LockName;
 use lk_rows::Verb;
 use lk_word::has_only_waiting;
 use std::sync::Wait;

@@ -8,8 +8,8 @@ ghost use Rattle.lk_rows.specs.rows.Rw.{admits, one_more};
 ghost use Rattle.lk_rw.specs.Row.{IsRwReady};
 
 use crate::word::{is_open, lock_of, miss, one_less, one_more};
-use lk_abs::{Event, RwHow, What};
 use lk_machine::Machine;
+use lk_names::{Event, RwHow, What};
 use lk_rows::Pc;
 use lk_word::RwFields;
 

@@ -7,8 +7,8 @@ ghost use Rattle.lk_rows.specs.TopRow.{row};
 ghost use Rattle.lk_rw.specs.Row.{IsRwReady};
 
 use crate::{reader, writer};
-use lk_abs::Event;
 use lk_machine::Machine;
+use lk_names::Event;
 use lk_rows::Pc;
 
 /// Makes the row at which the newest frame of a processor stands, one of r1 to r5, w1 to w6, y1 to

@@ -5,8 +5,8 @@ ghost use Rattle.lk_rows.specs.Moves.{missed};
 ghost use Rattle.lk_rows.specs.rows.Rw.{is_empty, is_open, is_cleared, one_more, one_less, written_word, rw_lock};
 ghost use Rattle.lk_machine.specs.Ready.{IsReady};
 
-use lk_abs::{Event, LockName, What};
 use lk_machine::Machine;
+use lk_names::{Event, LockName, What};
 use lk_word::RwFields;
 
 // Whether the word has no reader and no writer, and nobody waits.

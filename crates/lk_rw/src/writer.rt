@@ -8,8 +8,8 @@ ghost use Rattle.lk_rows.specs.rows.Rw.{takes_written, written_word};
 ghost use Rattle.lk_rw.specs.Row.{IsRwReady};
 
 use crate::word::{is_cleared, is_empty, lock_of, miss, written_word};
-use lk_abs::{Event, RwHow, What};
 use lk_machine::Machine;
+use lk_names::{Event, RwHow, What};
 use lk_rows::Pc;
 use lk_word::RwFields;
 

@@ -1,13 +1,13 @@
 // That a seat tells which locks its processor holds, also one that it took by a call of `lk_run`.
 ghost use Rattle.std.specs.Prelude.{◌≡◌};
-ghost use Rattle.lk_abs.specs.declared.names.Kind.TheVariants.{Rw as sharing};
+ghost use Rattle.lk_names.specs.declared.names.Kind.TheVariants.{Rw as sharing};
 ghost use Rattle.lk_lock.specs.Cells.{names_of};
 ghost use Rattle.lk_lock.specs.Standing.{IsSharedUnder, IsUnder, Rests};
 
-use lk_abs::{Memory, Mode};
 use lk_domain::LockId;
 use lk_lock::{Cpu, Domain, Locks, Open, Rw, Seat, Shared};
 use lk_lock_tests::last;
+use lk_names::{Memory, Mode};
 use lk_run::{NoIrq, read_lock, write_lock};
 use std::sync::Wait;
 

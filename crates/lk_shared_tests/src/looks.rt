@@ -1,12 +1,12 @@
 // What no clause says: what a look at a lock tells, of each kind, while it is held and while it is free.
 ghost use Rattle.std.specs.Prelude.{◌≡◌, ◌<◌, length};
-ghost use Rattle.lk_abs.specs.declared.names.Kind.TheVariants.{Rw as sharing, Spin as spinning};
+ghost use Rattle.lk_names.specs.declared.names.Kind.TheVariants.{Rw as sharing, Spin as spinning};
 ghost use Rattle.lk_lock.specs.Cells.{names_of};
 ghost use Rattle.lk_lock.specs.Standing.{AllRest, IsSharedUnder, IsUnder, Rests};
 
-use lk_abs::{List, Memory, Mode};
 use lk_lock::{Cpu, Domain, Locks, Open, Rw, Seat, Shared, Spin};
 use lk_lock_tests::last;
+use lk_names::{List, Memory, Mode};
 use std::sync::Wait;
 use std::thread;
 use std::thread::Threads;

@@ -1,8 +1,8 @@
 // What no clause says: that readers are in at once, that all copies of a value are one after an update, and
 // that the value which comes out is the one that was left last.
-use lk_abs::{Memory, Mode};
 use lk_lock::{Locks, Open, Seat};
 use lk_lock_tests::last;
+use lk_names::{Memory, Mode};
 
 #[test]
 fn two_readers_are_in_at_once(rt: HostRuntime) -> Result<(), Memory> {

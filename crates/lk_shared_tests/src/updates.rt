@@ -1,11 +1,11 @@
 // What no clause says: that updates at once leave one value in all copies, and that none of them is lost.
 ghost use Rattle.std.specs.Prelude.{◌≡◌, length};
-ghost use Rattle.lk_abs.specs.declared.names.Kind.TheVariants.{Spin as spinning};
+ghost use Rattle.lk_names.specs.declared.names.Kind.TheVariants.{Spin as spinning};
 ghost use Rattle.lk_lock.specs.Cells.{names_of};
 ghost use Rattle.lk_lock.specs.Standing.{AllRest, IsSharedUnder, IsUnder, Rests};
 
-use lk_abs::{List, Memory, Mode};
 use lk_lock::{Cpu, Domain, Locks, Seat, Shared, Spin};
+use lk_names::{List, Memory, Mode};
 use std::sync::Wait;
 use std::thread;
 use std::thread::Threads;

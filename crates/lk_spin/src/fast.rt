@@ -6,8 +6,8 @@ ghost use Rattle.lk_rows.specs.Moves.{missed};
 ghost use Rattle.lk_rows.specs.TopRow.{row, on_word};
 ghost use Rattle.lk_rows.specs.rows.Spin.{takes};
 
-use lk_abs::{Event, How, What};
 use lk_machine::Machine;
+use lk_names::{Event, How, What};
 use lk_rows::{HELD, Pc, after_fast, is_free};
 use lk_word::Locked;
 

@@ -4,8 +4,8 @@ ghost use Rattle.lk_rows.specs.Machine.{top_frame};
 ghost use Rattle.lk_machine.specs.Ready.{IsReady};
 ghost use Rattle.lk_rows.specs.TopRow.{row};
 
-use lk_abs::{Event, How, What};
 use lk_machine::Machine;
+use lk_names::{Event, How, What};
 use lk_rows::{Pc, after_pending, is_unlocked, to_queue};
 use lk_word::{Fields, Locked};
 

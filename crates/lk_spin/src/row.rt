@@ -7,8 +7,8 @@ ghost use Rattle.lk_machine.specs.Ready.{IsReady};
 ghost use Rattle.lk_rows.specs.TopRow.{row};
 
 use crate::{fast, pending};
-use lk_abs::Event;
 use lk_machine::Machine;
+use lk_names::Event;
 use lk_rows::Pc;
 
 /// Makes the row at which the newest frame of a processor stands, one of F1, T1, T2, U1, V1, V2

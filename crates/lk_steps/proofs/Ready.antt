@@ -5,8 +5,8 @@ use Rattle.lk_rows.specs.Machine.{Machine}
 use Rattle.lk_rows.specs.Programs.{IsLawfulSetup}
 use Rattle.lk_rows.specs.Run.{at_rest, machine_after}
 use Rattle.lk_rows.specs.declared.setup.Setup.{Setup}
-use Rattle.lk_abs.specs.History.{history_of}
-use Rattle.lk_abs.specs.declared.events.Act.{Act}
+use Rattle.lk_names.specs.History.{history_of}
+use Rattle.lk_names.specs.declared.events.Act.{Act}
 use Rattle.lk_law.specs.Sound.{IsSound}
 use Rattle.lk_law.specs.MachineLaws.{RestShows}
 use Rattle.lk_steps.specs.Shown.{CanShow}

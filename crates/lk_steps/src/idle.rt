@@ -5,8 +5,8 @@ ghost use Rattle.lk_rows.specs.Acts.{processor_of};
 ghost use Rattle.lk_rows.specs.Machine.{HasTop};
 ghost use Rattle.lk_rows.specs.Programs.{HasPrograms};
 
-use lk_abs::Act;
 use lk_machine::{MAX_FRAMES, Machine};
+use lk_names::Act;
 use lk_rows::Pc;
 
 /// The processor that an act names.

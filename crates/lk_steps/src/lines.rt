@@ -2,8 +2,8 @@
 
 use crate::step::Step;
 use crate::text::Text;
-use lk_abs::{Event, Memory};
 use lk_forms::event_line;
+use lk_names::{Event, Memory};
 use lk_stream::ReplayFault;
 use lk_text::{Sink, put};
 use std::alloc::Global;

@@ -3,8 +3,8 @@
 ghost use Rattle.std.specs.Prelude.{◌≤◌, length};
 
 use crate::text::Text;
-use lk_abs::LockName;
 use lk_machine::{MAX_NODES, Machine};
+use lk_names::LockName;
 use lk_rows::{Family, Frame, Pc, State, named};
 use lk_word::NodeName;
 

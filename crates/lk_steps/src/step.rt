@@ -6,8 +6,8 @@ ghost use Rattle.lk_steps.specs.Shown.{CanShow};
 use crate::idle::{cpu_of, idle_of};
 use crate::spot::{Spot, spot_of};
 use crate::text::Text;
-use lk_abs::{Act, Memory, Waiter};
 use lk_machine::Machine;
+use lk_names::{Act, Memory, Waiter};
 use lk_rows::{Frame, Pc};
 use std::alloc::Global;
 

@@ -1,6 +1,6 @@
 // Texts that are put together, and the values of a machine as text.
 
-use lk_abs::{LockName, Memory};
+use lk_names::{LockName, Memory};
 use lk_rows::{Flag, Node, Pc};
 use lk_word::{Fields, Locked, NodeName, RwFields};
 use std::alloc::Global;

@@ -5,9 +5,9 @@ ghost use Rattle.lk_rows.specs.Programs.{IsLawfulSetup};
 
 use crate::idle::cpu_of;
 use crate::step::{Step, deed_of};
-use lk_abs::{Act, Event, Memory, Waiter};
 use lk_core::rest_shows;
 use lk_machine::Machine;
+use lk_names::{Act, Event, Memory, Waiter};
 use lk_rows::Setup;
 use std::alloc::Global;
 

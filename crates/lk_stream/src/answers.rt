@@ -1,8 +1,8 @@
 // What is answered where a text is not read to its end.
 ghost use Rattle.std.specs.Prelude.{◌≡◌};
 
-use lk_abs::Memory;
 use lk_forms::{Fault, LineRefusal, Which};
+use lk_names::Memory;
 use lk_text::WriteFault;
 
 /// Why a text was not read and obeyed to its end.

@@ -6,7 +6,7 @@ ghost use Rattle.lk_text.specs.Bytes.{AppendsFront, Conveys};
 
 use crate::digits::{copy_at, print_at};
 use crate::sink::{Sink, WriteFault, put};
-use lk_abs::Memory;
+use lk_names::Memory;
 use std::alloc::Global;
 
 // The bytes that a block holds at most.

@@ -8,7 +8,7 @@ ghost use Rattle.lk_text.specs.declared.reader.TheConstants.{MAX_INPUT, MAX_LINE
 
 use crate::feeds::{behind_last_feed, find_feed};
 use crate::source::{Failed, Source};
-use lk_abs::Memory;
+use lk_names::Memory;
 use std::alloc::Global;
 
 /// The most bytes of a line, not counting its line feed.

@@ -6,7 +6,7 @@ ghost use Rattle.lk_text.specs.Causes.{Rose, HasCause, TakesSurely, PutsSurely};
 ghost use Rattle.lk_text.specs.Bytes.{AppendsFront};
 
 use crate::source::Failed;
-use lk_abs::Memory;
+use lk_names::Memory;
 use std::alloc::Global;
 use std::io::Write;
 

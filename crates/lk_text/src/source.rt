@@ -4,7 +4,7 @@ ghost use Rattle.std.specs.Io.{ReadsAtMost};
 ghost use Rattle.std.specs.Io.KnownBytes.{ReadConsumes};
 ghost use Rattle.lk_text.specs.Causes.{HasCause};
 
-use lk_abs::Memory;
+use lk_names::Memory;
 use std::alloc::Global;
 use std::io::Read;
 

@@ -2,8 +2,8 @@
 // is printed.
 
 use crate::headers::setup_of;
-use lk_abs::{Kind, List, Mode};
 use lk_forms::{LineRefusal, schedule_line};
+use lk_names::{Kind, List, Mode};
 use lk_rows::{Op, Setup};
 use lk_text::read_number;
 use std::alloc::{AllocError, Global};

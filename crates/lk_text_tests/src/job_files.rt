@@ -1,7 +1,7 @@
 // Job files and the lines of an outcome.
 
-use lk_abs::{Entry, Job, JobFile, Kind, Mode, Reply, Seen};
 use lk_job_forms::{JobReader, balance_line, entry_line, seen_line, total_line};
+use lk_names::{Entry, Job, JobFile, Kind, Mode, Reply, Seen};
 use lk_text::LineBuf;
 use std::alloc::{AllocError, Global};
 use std::process::Abort;

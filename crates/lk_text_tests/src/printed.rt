@@ -1,7 +1,7 @@
 // The lines of a transcript.
 
-use lk_abs::{Event, How, LockName, RwHow, Waiter, What};
 use lk_forms::{count_line, end_line, event_line};
+use lk_names::{Event, How, LockName, RwHow, Waiter, What};
 use lk_rows::Counts;
 use std::str;
 use std::test::Fail;

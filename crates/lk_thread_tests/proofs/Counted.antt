@@ -4,7 +4,7 @@ use Rattle.std.proofs.Common.{◌≡◌, ℕ, ◌+◌, ◌<◌, List, [], ◌∷
 use Rattle.std.proofs.lemmas.List.{get_or_push, length-append}
 use Rattle.atomic_table.specs.Seated.{TableId}
 use Rattle.lk_cell.specs.Latched.{IsKey}
-use Rattle.lk_abs.specs.declared.holder.Manner.TheVariants.{Spins}
+use Rattle.lk_names.specs.declared.holder.Manner.TheVariants.{Spins}
 use Rattle.lk_domain.specs.Calls.{Calls, Hold, hold, hold_in, holds_in, lock_name}
 use Rattle.lk_domain.specs.Ledgers.{Ledger}
 use Rattle.lk_domain.specs.Plans.{cpus_of}

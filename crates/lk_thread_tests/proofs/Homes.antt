@@ -1,8 +1,8 @@
 -- No value is out while none was taken out: what the calls on locks leave.
 use Rattle.std.proofs.Common.{◌≡◌, ◌∙◌, ℕ, Bool, true, false, List, length, refl, ap}
 use Rattle.std.specs.Prelude.{◌&&◌, ◌||◌}
-use Rattle.lk_abs.specs.Names.{same_lock}
-use Rattle.lk_abs.specs.declared.holder.Manner.TheVariants.{Spins}
+use Rattle.lk_names.specs.Names.{same_lock}
+use Rattle.lk_names.specs.declared.holder.Manner.TheVariants.{Spins}
 use Rattle.lk_rows.specs.declared.setup.Verb.{Verb}
 use Rattle.lk_domain.specs.Calls.{Calls, Hold, Terms, holds_in, lock_name}
 use Rattle.lk_domain.specs.Paths.{HasTaken, HasFreed}

@@ -2,8 +2,8 @@
 use Rattle.std.proofs.Common.{◌≡◌, ◌<◌, ℕ, List, [], ◌∷◌, Some, None, length, refl, sym, ap, ◌∙◌, subst, arith}
 use Rattle.std.proofs.lemmas.List.{append-nil}
 use Rattle.std.specs.Prelude.{slice_index, slice_set}
-use Rattle.lk_abs.specs.Journal.{Replays}
-use Rattle.lk_abs.specs.declared.ledger.Entry.{Entry}
+use Rattle.lk_names.specs.Journal.{Replays}
+use Rattle.lk_names.specs.declared.ledger.Entry.{Entry}
 use Rattle.lk_domain.specs.Keeps.{balance}
 use Rattle.lk_domain.specs.Ledgers.{Ledger, Out, loaded, stored, manner_of, trail_of}
 use Rattle.lk_domain.specs.Plans.{accounts_of}

@@ -1,8 +1,8 @@
 -- What a processor that may halt may still write.
 use Rattle.std.proofs.Common.{◌≡◌, ◌+◌, ◌<◌, ◌≤◌, ◌++◌, ◌∷◌, [], ℕ, List, None, length, replicate, get_or, refl, sym, ap, ◌∙◌, subst, arith}
 use Rattle.std.proofs.lemmas.List.{get_or-replicate, get_or_push, length-append}
-use Rattle.lk_abs.specs.declared.ledger.Job.{Job}
-use Rattle.lk_abs.specs.declared.ledger.Reply.{Reply}
+use Rattle.lk_names.specs.declared.ledger.Job.{Job}
+use Rattle.lk_names.specs.declared.ledger.Reply.{Reply}
 use Rattle.lk_domain.specs.Calls.{Calls}
 use Rattle.lk_domain.specs.Ledgers.{Ledger}
 use Rattle.lk_domain.specs.Plans.{share_of}

@@ -1,8 +1,8 @@
 -- The locks of a test, and what a processor of one does.
 use Rattle.std.specs.Prelude.{◌≡◌, ◌≢◌, ◌<◌, ℕ, None, false}
-use Rattle.lk_abs.specs.declared.holder.Manner.{Manner}
-use Rattle.lk_abs.specs.declared.names.Kind.{Kind}
-use Rattle.lk_abs.specs.declared.names.Kind.TheVariants.{Rw, Spin}
+use Rattle.lk_names.specs.declared.holder.Manner.{Manner}
+use Rattle.lk_names.specs.declared.names.Kind.{Kind}
+use Rattle.lk_names.specs.declared.names.Kind.TheVariants.{Rw, Spin}
 use Rattle.lk_law.specs.Agree.{halts}
 use Rattle.lk_domain.specs.Ends.{Rests}
 use Rattle.lk_domain.specs.Plans.{kind_at, locks_of}

@@ -6,8 +6,8 @@ ghost use Rattle.lk_domain.specs.Seats.{IsOf, KeepsRest, calls_of, ledger_of};
 ghost use Rattle.lk_thread_tests.specs.Stages.{MayVisit, PlaysIn, RestsAgain};
 
 use crate::stage::{Scene, Sign, Stay, hold, may_visit, open_two, play_all};
-use lk_abs::Format;
 use lk_domain::{Cpu, Domain, LockId};
+use lk_names::Format;
 use lk_run::{Irq, lock, unlock};
 use std::process::Abort;
 use std::sync::Wait;

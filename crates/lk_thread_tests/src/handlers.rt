@@ -6,8 +6,8 @@ ghost use Rattle.lk_domain.specs.Seats.{IsOf, KeepsRest, calls_of, ledger_of};
 ghost use Rattle.lk_thread_tests.specs.Stages.{MayVisit, PlaysIn, RestsAgain};
 
 use crate::stage::{LOCKS, Scene, Sign, Stay, hold, may_visit, open, play_all};
-use lk_abs::{Kind, Mode};
 use lk_domain::{Cpu, Domain, LockId};
+use lk_names::{Kind, Mode};
 use lk_run::{Irq, NoIrq, lock, try_lock, unlock};
 use std::process::Abort;
 use std::sync::Wait;

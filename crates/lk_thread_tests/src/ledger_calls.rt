@@ -1,8 +1,8 @@
 // The calls on the words of the ledger, each once, by a processor that holds lock 0; and what the
 // end of a domain says of that lock.
 ghost use Rattle.std.specs.Prelude.{◌≡◌, ◌<◌, None, false};
-ghost use Rattle.lk_abs.specs.declared.holder.Manner.TheVariants.{Spins};
-ghost use Rattle.lk_abs.specs.declared.names.Kind.TheVariants.{Spin};
+ghost use Rattle.lk_names.specs.declared.holder.Manner.TheVariants.{Spins};
+ghost use Rattle.lk_names.specs.declared.names.Kind.TheVariants.{Spin};
 ghost use Rattle.lk_law.specs.Agree.{halts};
 ghost use Rattle.lk_domain.specs.Plans.{accounts_of, kind_at, locks_of};
 ghost use Rattle.lk_domain.specs.Seats.{IsOf, IsSame, ledger_of};
@@ -11,8 +11,8 @@ ghost use Rattle.lk_guard.specs.Idle.{IsIdle};
 
 use crate::region_calls::open;
 use crate::stage;
-use lk_abs::{Job, Kind, Mode, Reply};
 use lk_domain::{Cpu, Domain, LockId, close, journal_home, journal_out, load, store, version};
+use lk_names::{Job, Kind, Mode, Reply};
 use lk_run::{NoIrq, lock, unlock};
 use std::process::Abort;
 use std::sync::Wait;

@@ -5,8 +5,8 @@ ghost use Rattle.lk_domain.specs.Seats.{IsOf, ledger_of};
 ghost use Rattle.lk_thread_tests.specs.Stages.{NoneOut};
 
 use crate::stage::{LOCKS, open, take_last};
-use lk_abs::{Kind, Mode};
 use lk_domain::{Cpu, Domain, LockId};
+use lk_names::{Kind, Mode};
 use lk_run::{NoIrq, lock, try_lock, unlock};
 use std::alloc::{AllocError, Global};
 use std::process::Abort;

@@ -6,8 +6,8 @@ ghost use Rattle.lk_domain.specs.Plans.{cpus_of, locks_of};
 ghost use Rattle.lk_pvdomain.specs.PvSeats.{AreDealt};
 ghost use Rattle.lk_thread_tests.specs.Halting.{HasOne, IsReady};
 
-use lk_abs::{Format, List, Memory};
 use lk_domain::LockId;
+use lk_names::{Format, List, Memory};
 use lk_pvdomain::{PvCpu, PvDomain, PvPlan, pv_lock, pv_try_lock, pv_unlock};
 use std::alloc::Global;
 use std::process::Abort;

@@ -7,7 +7,7 @@ ghost use Rattle.lk_thread_tests.specs.Halting.{IsReady};
 
 use crate::pv_calls::{give_back, open, take};
 use crate::stage::Sign;
-use lk_abs::List;
+use lk_names::List;
 use lk_pvdomain::{PvCpu, PvDomain};
 use std::process::Abort;
 use std::sync::Wait;

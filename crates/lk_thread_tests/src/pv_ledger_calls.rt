@@ -1,7 +1,7 @@
 // The calls on the words of the ledger of a domain whose waiters halt, each once, by a processor that
 // holds lock 0.
 ghost use Rattle.std.specs.Prelude.{◌≡◌, ◌<◌, None};
-ghost use Rattle.lk_abs.specs.declared.holder.Manner.TheVariants.{Spins};
+ghost use Rattle.lk_names.specs.declared.holder.Manner.TheVariants.{Spins};
 ghost use Rattle.lk_domain.specs.Plans.{accounts_of};
 ghost use Rattle.lk_guard.specs.Holding.{HoldsFirst};
 ghost use Rattle.lk_guard.specs.Idle.{IsFree};
@@ -10,9 +10,9 @@ ghost use Rattle.lk_domain.specs.Seats.{IsSame, calls_of, ledger_of};
 ghost use Rattle.lk_pvdomain.specs.PvSeats.{IsOf};
 
 use crate::pv_region::open;
-use lk_abs::{Job, Reply};
 use lk_domain::LockId;
 use lk_guard::Guarded;
+use lk_names::{Job, Reply};
 use lk_pvdomain::{
     PvCpu, PvDomain, pv_journal_home, pv_journal_out, pv_load, pv_lock, pv_store, pv_unlock,
     pv_version,

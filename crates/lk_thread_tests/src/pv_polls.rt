@@ -5,7 +5,7 @@ ghost use Rattle.lk_domain.specs.Plans.{locks_of};
 ghost use Rattle.lk_thread_tests.specs.Halting.{AllReady, HasOne, IsReady, IsWaiting, StandsAt};
 
 use crate::pv_calls::{LOCK, give_back, open, take};
-use lk_abs::List;
+use lk_names::List;
 use lk_pvdomain::{PvCpu, PvDomain, PvRelease, PvTurn, PvWaiter, pv_begin, pv_poll, pv_try_unlock};
 use std::process::Abort;
 use std::sync::Wait;

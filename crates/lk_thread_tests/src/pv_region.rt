@@ -4,8 +4,8 @@ ghost use Rattle.std.specs.Prelude.{◌≡◌, IfOk, length};
 ghost use Rattle.lk_domain.specs.Plans.{accounts_of};
 ghost use Rattle.lk_thread_tests.specs.Halting.{AllMayWrite, MayWrite};
 
-use lk_abs::{Format, Job, List, Memory, Reply};
 use lk_guard::{Guarded, PvRegion};
+use lk_names::{Format, Job, List, Memory, Reply};
 use lk_pvdomain::{PvCpu, PvDomain, PvPlan};
 use std::alloc::Global;
 use std::process::Abort;

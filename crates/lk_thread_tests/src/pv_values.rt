@@ -8,9 +8,9 @@ ghost use Rattle.lk_domain.specs.Plans.{cpus_of};
 ghost use Rattle.lk_pvdomain.specs.PvSeats.{AllRest, AreDealt, IsDealt, Rests};
 ghost use Rattle.lk_thread_tests.specs.Counting.{IsValued, MayCount};
 
-use lk_abs::{Format, List, Memory};
 use lk_cell::{Any, Key, KeyCell};
 use lk_domain::LockId;
+use lk_names::{Format, List, Memory};
 use lk_pvdomain::{PvCpu, PvDomain, PvPlan, pv_close, pv_lock, pv_unlock, pv_with_key};
 use std::alloc::Global;
 use std::sync::Wait;

@@ -6,9 +6,9 @@ ghost use Rattle.lk_domain.specs.Plans.{share_of};
 ghost use Rattle.lk_domain.specs.Seats.{IsOf, ledger_of};
 ghost use Rattle.lk_guard.specs.Idle.{IsIdle};
 
-use lk_abs::{Format, Job, Kind, List, Memory, Mode, Reply, Topology};
 use lk_domain::{Cpu, Domain, Plan};
 use lk_guard::Region;
+use lk_names::{Format, Job, Kind, List, Memory, Mode, Reply, Topology};
 use lk_run::NoIrq;
 use std::alloc::Global;
 use std::process::Abort;

@@ -1,12 +1,12 @@
 // The calls on a reader-writer lock, by three processors of one thread.
 ghost use Rattle.std.specs.Prelude.{◌≡◌, true, false};
-ghost use Rattle.lk_abs.specs.declared.holder.Manner.TheVariants.{Reads, Writes};
+ghost use Rattle.lk_names.specs.declared.holder.Manner.TheVariants.{Reads, Writes};
 ghost use Rattle.lk_law.specs.Agree.{halts};
 ghost use Rattle.lk_thread_tests.specs.Stages.{HasEntered, MayEnter};
 
 use crate::stage::{open, take_last};
-use lk_abs::{Kind, Mode};
 use lk_domain::{Cpu, Domain, LockId};
+use lk_names::{Kind, Mode};
 use lk_run::{NoIrq, read_lock, read_unlock, try_read, try_write, write_lock, write_unlock};
 use std::process::Abort;
 use std::sync::Wait;

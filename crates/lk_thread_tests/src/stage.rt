@@ -1,6 +1,6 @@
 // A domain for tests of running locks, and signs by which its threads meet.
 ghost use Rattle.std.specs.Prelude.{◌≡◌, ◌+◌, ◌<◌, ◌≤◌, true, false, IfOk, length};
-ghost use Rattle.lk_abs.specs.declared.names.Kind.TheVariants.{Spin};
+ghost use Rattle.lk_names.specs.declared.names.Kind.TheVariants.{Spin};
 ghost use Rattle.lk_law.specs.Agree.{halts};
 ghost use Rattle.lk_domain.specs.Ends.{AllRest};
 ghost use Rattle.lk_domain.specs.Plans.{IsLawfulPlan, cpus_of, locks_of};
@@ -8,8 +8,8 @@ ghost use Rattle.lk_domain.specs.Seats.{IsOf};
 ghost use Rattle.lk_guard.specs.Idle.{IsIdle};
 ghost use Rattle.lk_thread_tests.specs.Stages.{AreAll, MayVisit, PlaysIn, RestsAgain};
 
-use lk_abs::{Format, Kind, List, Memory, Mode, Topology};
 use lk_domain::{Cpu, Domain, LockId, Plan};
+use lk_names::{Format, Kind, List, Memory, Mode, Topology};
 use lk_run::{NoIrq, lock, unlock};
 use std::alloc::Global;
 use std::sync::Wait;

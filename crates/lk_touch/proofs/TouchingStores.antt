@@ -2,8 +2,8 @@
 use Rattle.std.proofs.Common.{◌≡◌, ℕ, ◌<◌, Option, Some, None, Bool, List, [], ◌∷◌}
 use Rattle.std.proofs.Common.{ap, refl, ◌∙◌, length, position}
 use Rattle.std.specs.Prelude.{unwrap_or}
-use Rattle.lk_abs.specs.declared.events.What.TheVariants as what
-use Rattle.lk_abs.specs.declared.names.LockName.{LockName}
+use Rattle.lk_names.specs.declared.events.What.TheVariants as what
+use Rattle.lk_names.specs.declared.names.LockName.{LockName}
 use Rattle.lk_word.specs.declared.spin_word.NodeName.{NodeName}
 use Rattle.lk_word.specs.declared.spin_word.Fields.{Fields}
 use Rattle.lk_word.specs.declared.rw_word.RwFields.{RwFields}

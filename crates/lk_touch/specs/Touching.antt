@@ -1,7 +1,7 @@
 -- Whom a step touches: what is no single processor's, the processor that makes it, and at most one other. Whatever
 -- the others are, such a step does the same.
 use Rattle.std.specs.Prelude.{◌≡◌, ◌<◌, ℕ, Option, Some, None, List, length, slice_set, slice_index_or}
-use Rattle.lk_abs.specs.declared.events.Act.TheVariants.{Step}
+use Rattle.lk_names.specs.declared.events.Act.TheVariants.{Step}
 use Rattle.lk_word.specs.declared.spin_word.NodeName.{NodeName}
 use Rattle.lk_rows.specs.declared.parts.Frame.{Frame}
 use Rattle.lk_rows.specs.declared.parts.Pc.{Pc}

@@ -4,10 +4,10 @@ use Rattle.std.proofs.Common.{◌≡◌, ◌≢◌, ◌⊎◌, ◌<◌, inl, inr
 use Rattle.std.proofs.Common.{refl, sym, ap, ◌∙◌, subst, [], arith}
 use Rattle.std.proofs.lemmas.Bool.{cases_Bool}
 use Rattle.std.specs.Prelude.{if◌then◌else◌, is_some, ◌&&◌, not}
-use Rattle.lk_abs.specs.Names.{same_waiter, same_lock}
-use Rattle.lk_abs.specs.History.{LockHistory}
-use Rattle.lk_abs.specs.declared.names.Waiter.{Waiter}
-use Rattle.lk_abs.specs.declared.names.LockName.{LockName}
+use Rattle.lk_names.specs.Names.{same_waiter, same_lock}
+use Rattle.lk_names.specs.History.{LockHistory}
+use Rattle.lk_names.specs.declared.names.Waiter.{Waiter}
+use Rattle.lk_names.specs.declared.names.LockName.{LockName}
 use Rattle.lk_word.specs.declared.spin_word.NodeName.{NodeName}
 use Rattle.lk_word.specs.declared.spin_word.Fields.{Fields}
 use Rattle.lk_rows.specs.declared.parts.Flag.{Flag}
@@ -348,7 +348,7 @@ module _ (m : World) (hs : LockName → LockHistory) (w : Waiter) (f : Frame) (o
           )
 
   abbrev sole_effect : Bool → Effect Fields
-  sole_effect b = if b then Rattle.lk_rows.specs.rows.Queue.takes_out f Rattle.lk_abs.specs.declared.events.How.TheVariants.Sole else Rattle.lk_rows.specs.Row.looks G9
+  sole_effect b = if b then Rattle.lk_rows.specs.rows.Queue.takes_out f Rattle.lk_names.specs.declared.events.How.TheVariants.Sole else Rattle.lk_rows.specs.Row.looks G9
 
   own_G8 : f.place ≡ Some G8 → Ends G8 (g G8)
   own_G8 at k e a last = by (is_sole f x) refl e a last
@@ -448,7 +448,7 @@ module _ (m : World) (hs : LockName → LockHistory) (w : Waiter) (f : Frame) (o
   promotion b = if b then record {
     stores = Some (record x { tail = f.t });
     leads = Rattle.lk_rows.specs.Row.Goes C7 (Y f.second ∷ Second None ∷ []);
-    tells = Rattle.lk_rows.specs.Row.Says (Rattle.lk_abs.specs.declared.events.What.TheVariants.Promote f.lock);
+    tells = Rattle.lk_rows.specs.Row.Says (Rattle.lk_names.specs.declared.events.What.TheVariants.Promote f.lock);
     counts = [];
   } else Rattle.lk_rows.specs.Row.looks C1
 

@@ -3,11 +3,11 @@ use Rattle.std.proofs.Common.{◌≡◌, ◌≢◌, ◌⊎◌, inl, inr, ℕ, ze
 use Rattle.std.proofs.Common.{false, refl, sym, ap, ◌∙◌, subst, arith, List, [], ◌∷◌, slice_get}
 use Rattle.std.proofs.lemmas.Bool.{cases_Bool}
 use Rattle.std.specs.Prelude.{is_some, ◌&&◌, not}
-use Rattle.lk_abs.specs.History.{LockHistory}
-use Rattle.lk_abs.specs.declared.holder.Manner.TheVariants.{Spins}
-use Rattle.lk_abs.specs.declared.names.Kind.TheVariants.{Rw}
-use Rattle.lk_abs.specs.declared.names.Waiter.{Waiter}
-use Rattle.lk_abs.specs.declared.names.LockName.{LockName}
+use Rattle.lk_names.specs.History.{LockHistory}
+use Rattle.lk_names.specs.declared.holder.Manner.TheVariants.{Spins}
+use Rattle.lk_names.specs.declared.names.Kind.TheVariants.{Rw}
+use Rattle.lk_names.specs.declared.names.Waiter.{Waiter}
+use Rattle.lk_names.specs.declared.names.LockName.{LockName}
 use Rattle.lk_word.specs.declared.spin_word.NodeName.{NodeName}
 use Rattle.lk_rows.specs.declared.parts.Frame.{Frame}
 use Rattle.lk_rows.specs.declared.parts.Pc.{Pc}
@@ -29,7 +29,7 @@ use Rattle.lk_law.specs.World.{World}
 use Rattle.lk_law.proofs.common.Puts.{not-true}
 use Rattle.lk_law.proofs.common.Users.{is_node-own}
 use Rattle.lk_law.proofs.queue.Lead.{follows_cases}
-use Rattle.lk_abs.proofs.ByIndex.{get_cases}
+use Rattle.lk_names.proofs.ByIndex.{get_cases}
 use Rattle.lk_waits.proofs.Owning.{owns}
 use Rattle.lk_waits.specs.Waits.{polls, lock_at, IsTop, IsAtBay}
 use Rattle.lk_waits.specs.Order.{IsTidy, IsRanked, HoldsOutside}

@@ -2,10 +2,10 @@
 use Rattle.std.proofs.Common.{◌≡◌, ◌≢◌, ◌⊎◌, inl, inr, ℕ, zero, suc, ◌≤◌, ◌+◌, Option, Some, None, Bool, true}
 use Rattle.std.proofs.Common.{false, refl, sym, ap, ◌∙◌, subst, arith, List, [], ◌∷◌, slice_get}
 use Rattle.std.specs.Prelude.{is_some, ◌&&◌, not}
-use Rattle.lk_abs.specs.History.{LockHistory}
-use Rattle.lk_abs.specs.declared.holder.Manner.TheVariants.{Spins}
-use Rattle.lk_abs.specs.declared.names.Waiter.{Waiter}
-use Rattle.lk_abs.specs.declared.names.LockName.{LockName}
+use Rattle.lk_names.specs.History.{LockHistory}
+use Rattle.lk_names.specs.declared.holder.Manner.TheVariants.{Spins}
+use Rattle.lk_names.specs.declared.names.Waiter.{Waiter}
+use Rattle.lk_names.specs.declared.names.LockName.{LockName}
 use Rattle.lk_word.specs.declared.spin_word.NodeName.{NodeName}
 use Rattle.lk_word.specs.declared.spin_word.Locked.TheVariants.{Held}
 use Rattle.lk_rows.specs.declared.parts.Flag.{Flag}
@@ -31,7 +31,7 @@ use Rattle.lk_law.proofs.common.Worlds.{phase_on-here}
 use Rattle.lk_law.proofs.pv.Laws.{halts_flat}
 use Rattle.lk_law.proofs.queue.Lead.{follows_cases, lead_first}
 use Rattle.lk_law.proofs.rw.Knows.{rw_row_knows}
-use Rattle.lk_abs.proofs.ByIndex.{get_cases}
+use Rattle.lk_names.proofs.ByIndex.{get_cases}
 use Rattle.lk_waits.proofs.Owning.{owns}
 use Rattle.lk_waits.specs.Waits.{polls, lock_at, IsTop}
 use Rattle.lk_waits.specs.Order.{IsTidy, IsRanked, HoldsOutside}
@@ -273,7 +273,7 @@ module _ (level : LockName → ℕ) (bound : ℕ) (m : World) (hs : LockName →
   shown w f c top = ap (phase_on f.lock) top.live ∙ phase_on-here f.lock f refl
       ∙ ap (λ (d : Option Pc). phase_if d (is_some f.me) (node_of f.prev) (node_of f.y)) top.place
 
-  writes : (i : ℕ) → m.kind i ≡ Rattle.lk_abs.specs.declared.names.Kind.TheVariants.Rw → (m.rw i).writer ≡ true → On (rw_name i)
+  writes : (i : ℕ) → m.kind i ≡ Rattle.lk_names.specs.declared.names.Kind.TheVariants.Rw → (m.rw i).writer ≡ true → On (rw_name i)
   writes = written level bound m hs ok tidy ranked top_polls meets_writer
 
   -- whoever stands, waits for one at a higher level

@@ -3,12 +3,12 @@ use Rattle.std.proofs.Common.{◌≡◌, ◌≢◌, ◌⊎◌, ◌<◌, inl, inr
 use Rattle.std.proofs.Common.{refl, sym, ap, ◌∙◌, subst, arith}
 use Rattle.std.proofs.lemmas.Bool.{cases_Bool}
 use Rattle.std.specs.Prelude.{if◌then◌else◌, is_some, ◌&&◌, not}
-use Rattle.lk_abs.specs.Names.{same_waiter, same_lock}
-use Rattle.lk_abs.specs.History.{LockHistory}
-use Rattle.lk_abs.specs.declared.names.Mode.{Mode}
-use Rattle.lk_abs.specs.declared.names.Mode.TheVariants.{Virt, Native, Cna, Pv}
-use Rattle.lk_abs.specs.declared.names.Waiter.{Waiter}
-use Rattle.lk_abs.specs.declared.names.LockName.{LockName}
+use Rattle.lk_names.specs.Names.{same_waiter, same_lock}
+use Rattle.lk_names.specs.History.{LockHistory}
+use Rattle.lk_names.specs.declared.names.Mode.{Mode}
+use Rattle.lk_names.specs.declared.names.Mode.TheVariants.{Virt, Native, Cna, Pv}
+use Rattle.lk_names.specs.declared.names.Waiter.{Waiter}
+use Rattle.lk_names.specs.declared.names.LockName.{LockName}
 use Rattle.lk_word.specs.declared.spin_word.NodeName.{NodeName}
 use Rattle.lk_word.specs.declared.spin_word.Fields.{Fields}
 use Rattle.lk_rows.specs.declared.parts.Flag.{Flag}
@@ -138,7 +138,7 @@ module _ (m : World) (hs : LockName → LockHistory) (w : Waiter) (f : Frame) (o
       (apart m hs w f ok awake plain live inner bare heads c at room f.lock s off)
 
   abbrev sole_effect : Bool → Effect Fields
-  sole_effect b = if b then Rattle.lk_rows.specs.rows.Queue.takes_out f Rattle.lk_abs.specs.declared.events.How.TheVariants.Sole else Rattle.lk_rows.specs.Row.looks G9
+  sole_effect b = if b then Rattle.lk_rows.specs.rows.Queue.takes_out f Rattle.lk_names.specs.declared.events.How.TheVariants.Sole else Rattle.lk_rows.specs.Row.looks G9
 
   own_keeps : (c : Pc) (at : f.place ≡ Some c) (room : bare ≡ false → c ≡ G1 → m.queued w.cpu < 4) (k : Pc)
       → (g c).place ≡ Some k → is_led_on k ≡ true → LastAt c → SomebodyComesBy bare (made c) (g c).lock

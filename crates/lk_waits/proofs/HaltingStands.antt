@@ -3,10 +3,10 @@ use Rattle.std.proofs.Common.{◌≡◌, ◌≢◌, ◌⊎◌, inl, inr, ℕ, Op
 use Rattle.std.proofs.Common.{refl, sym, ap, ◌∙◌, subst, arith, ◌<◌, ◌-◌, []}
 use Rattle.std.proofs.lemmas.Bool.{cases_Bool, cases_lt}
 use Rattle.std.specs.Prelude.{if◌then◌else◌, is_some, ◌&&◌, not, ◌==◌}
-use Rattle.lk_abs.specs.Names.{same_waiter}
-use Rattle.lk_abs.specs.History.{LockHistory}
-use Rattle.lk_abs.specs.declared.names.Waiter.{Waiter}
-use Rattle.lk_abs.specs.declared.names.LockName.{LockName}
+use Rattle.lk_names.specs.Names.{same_waiter}
+use Rattle.lk_names.specs.History.{LockHistory}
+use Rattle.lk_names.specs.declared.names.Waiter.{Waiter}
+use Rattle.lk_names.specs.declared.names.LockName.{LockName}
 use Rattle.lk_word.specs.declared.spin_word.NodeName.{NodeName}
 use Rattle.lk_word.specs.declared.spin_word.Fields.{Fields}
 use Rattle.lk_word.specs.declared.spin_word.Locked.TheVariants.{Held}
@@ -140,7 +140,7 @@ module _ (m : World) (w : Waiter) (f : Frame) (inner : f.lock.wait ≡ true → 
       by : (b : Bool) → led f (if b then record {
         stores = Some (record (m.word f.lock) { locked = Held; pending = false });
         leads = Rattle.lk_rows.specs.Row.Goes E13 [];
-        tells = Rattle.lk_rows.specs.Row.Says (Rattle.lk_abs.specs.declared.events.What.TheVariants.Take f.lock Rattle.lk_abs.specs.declared.events.How.TheVariants.Head);
+        tells = Rattle.lk_rows.specs.Row.Says (Rattle.lk_names.specs.declared.events.What.TheVariants.Take f.lock Rattle.lk_names.specs.declared.events.How.TheVariants.Head);
         counts = [];
       } else try_again f).leads ≡ f → ⊥
       by true e = (let z : Some E13 ≡ Some E4 = ap (λ (g : Frame). g.place) e ∙ at in cc z)

@@ -3,10 +3,10 @@ use Rattle.std.proofs.Common.{◌≡◌, inl, inr, Option, Some, None, Bool, tru
 use Rattle.std.proofs.Common.{refl, sym, ap, ◌∙◌}
 use Rattle.std.proofs.lemmas.Bool.{cases_Bool}
 use Rattle.std.specs.Prelude.{if◌then◌else◌, is_some, ◌&&◌, not, ◌-◌, ◌==◌}
-use Rattle.lk_abs.specs.Names.{same_waiter}
-use Rattle.lk_abs.specs.declared.names.Mode.{Mode}
-use Rattle.lk_abs.specs.declared.names.Mode.TheVariants.{Virt, Native, Cna, Pv}
-use Rattle.lk_abs.specs.declared.names.Waiter.{Waiter}
+use Rattle.lk_names.specs.Names.{same_waiter}
+use Rattle.lk_names.specs.declared.names.Mode.{Mode}
+use Rattle.lk_names.specs.declared.names.Mode.TheVariants.{Virt, Native, Cna, Pv}
+use Rattle.lk_names.specs.declared.names.Waiter.{Waiter}
 use Rattle.lk_word.specs.declared.spin_word.NodeName.{NodeName}
 use Rattle.lk_word.specs.declared.spin_word.Fields.{Fields}
 use Rattle.lk_word.specs.declared.rw_word.RwFields.{RwFields}
@@ -221,14 +221,14 @@ module _ (m : World) (w : Waiter) (f : Frame) (inner : f.lock.wait ≡ true → 
   pub still_R2 : f.place ≡ Some R2 → StandsStill m w f R2 → y.writer ≡ true
   still_R2 at still = by y.writer (still_place R2 at still)
     where
-      by : (b : Bool) → (led f (if b then Rattle.lk_rows.specs.Row.looks R2 else Rattle.lk_rows.specs.rows.Rw.admits f None Rattle.lk_abs.specs.declared.events.RwHow.TheVariants.Irq Rattle.lk_rows.specs.Row.Done).leads).place ≡ Some R2 → b ≡ true
+      by : (b : Bool) → (led f (if b then Rattle.lk_rows.specs.Row.looks R2 else Rattle.lk_rows.specs.rows.Rw.admits f None Rattle.lk_names.specs.declared.events.RwHow.TheVariants.Irq Rattle.lk_rows.specs.Row.Done).leads).place ≡ Some R2 → b ≡ true
       by true e = refl
       by false e = cc e
 
   pub still_R5 : f.place ≡ Some R5 → StandsStill m w f R5 → y.writer ≡ true
   still_R5 at still = by y.writer (still_place R5 at still)
     where
-      by : (b : Bool) → (led f (if b then Rattle.lk_rows.specs.Row.looks R5 else Rattle.lk_rows.specs.rows.Rw.admits f None Rattle.lk_abs.specs.declared.events.RwHow.TheVariants.Queued (frees_wait m.mode)).leads).place ≡ Some R5 → b ≡ true
+      by : (b : Bool) → (led f (if b then Rattle.lk_rows.specs.Row.looks R5 else Rattle.lk_rows.specs.rows.Rw.admits f None Rattle.lk_names.specs.declared.events.RwHow.TheVariants.Queued (frees_wait m.mode)).leads).place ≡ Some R5 → b ≡ true
       by true e = refl
       by false e = absurd (off_unlock R5 (λ z. cc z) (λ z. cc z) m.mode e)
 

@@ -2,11 +2,11 @@
 use Rattle.std.proofs.Common.{◌≡◌, ◌≢◌, ◌⊎◌, ◌<◌, inl, inr, ℕ, Option, Some, None, Bool, true, false}
 use Rattle.std.proofs.Common.{refl, sym, ap, ◌∙◌, subst, arith}
 use Rattle.std.specs.Prelude.{if◌then◌else◌, is_some}
-use Rattle.lk_abs.specs.Names.{same_lock}
-use Rattle.lk_abs.specs.declared.names.Mode.{Mode}
-use Rattle.lk_abs.specs.declared.names.Mode.TheVariants.{Virt, Native, Cna, Pv}
-use Rattle.lk_abs.specs.declared.names.Waiter.{Waiter}
-use Rattle.lk_abs.specs.declared.names.LockName.{LockName}
+use Rattle.lk_names.specs.Names.{same_lock}
+use Rattle.lk_names.specs.declared.names.Mode.{Mode}
+use Rattle.lk_names.specs.declared.names.Mode.TheVariants.{Virt, Native, Cna, Pv}
+use Rattle.lk_names.specs.declared.names.Waiter.{Waiter}
+use Rattle.lk_names.specs.declared.names.LockName.{LockName}
 use Rattle.lk_word.specs.declared.spin_word.NodeName.{NodeName}
 use Rattle.lk_word.specs.declared.spin_word.Fields.{Fields}
 use Rattle.lk_word.specs.declared.rw_word.RwFields.{RwFields}
@@ -191,8 +191,8 @@ module _ (m : World) (w : Waiter) (f : Frame) where
       by : (b : Bool) → is_free x ≡ b → GoesOn bare G3
       by true e = absurd (some (tailed e))
       by false e =
-          let P : Bool → Type 0 = λ b. (led f (if b then Rattle.lk_rows.specs.rows.Queue.takes_out f Rattle.lk_abs.specs.declared.events.How.TheVariants.Retry else Rattle.lk_rows.specs.Row.looks G4).leads).place ≡ Some G4 in
-          let Q : Bool → Type 0 = λ b. (led f (if b then Rattle.lk_rows.specs.rows.Queue.takes_out f Rattle.lk_abs.specs.declared.events.How.TheVariants.Retry else Rattle.lk_rows.specs.Row.looks G4).leads).lock ≡ f.lock in
+          let P : Bool → Type 0 = λ b. (led f (if b then Rattle.lk_rows.specs.rows.Queue.takes_out f Rattle.lk_names.specs.declared.events.How.TheVariants.Retry else Rattle.lk_rows.specs.Row.looks G4).leads).place ≡ Some G4 in
+          let Q : Bool → Type 0 = λ b. (led f (if b then Rattle.lk_rows.specs.rows.Queue.takes_out f Rattle.lk_names.specs.declared.events.How.TheVariants.Retry else Rattle.lk_rows.specs.Row.looks G4).leads).lock ≡ f.lock in
           record { place = G4; at = subst P (sym e) refl; comes = refl; lock = subst Q (sym e) refl }
   comes_on bare G4 h g awake room some = absurd (g refl)
   comes_on bare N1 h g awake room some = by (is_free x) refl
@@ -205,7 +205,7 @@ module _ (m : World) (w : Waiter) (f : Frame) where
       by : (b : Bool) → is_free x ≡ b → GoesOn bare N2
       by true e = absurd (some (tailed e))
       by false e =
-          let P : Bool → Type 0 = λ b. (led f (if b then Rattle.lk_rows.specs.rows.Queue.takes_out f Rattle.lk_abs.specs.declared.events.How.TheVariants.NoNode else Rattle.lk_rows.specs.Row.looks N1).leads).place ≡ Some N1 in
-          let Q : Bool → Type 0 = λ b. (led f (if b then Rattle.lk_rows.specs.rows.Queue.takes_out f Rattle.lk_abs.specs.declared.events.How.TheVariants.NoNode else Rattle.lk_rows.specs.Row.looks N1).leads).lock ≡ f.lock in
+          let P : Bool → Type 0 = λ b. (led f (if b then Rattle.lk_rows.specs.rows.Queue.takes_out f Rattle.lk_names.specs.declared.events.How.TheVariants.NoNode else Rattle.lk_rows.specs.Row.looks N1).leads).place ≡ Some N1 in
+          let Q : Bool → Type 0 = λ b. (led f (if b then Rattle.lk_rows.specs.rows.Queue.takes_out f Rattle.lk_names.specs.declared.events.How.TheVariants.NoNode else Rattle.lk_rows.specs.Row.looks N1).leads).lock ≡ f.lock in
           record { place = N1; at = subst P (sym e) refl; comes = h; lock = subst Q (sym e) refl }
   comes_on bare _ h g awake room some = cc h

@@ -2,7 +2,7 @@
 use Rattle.std.proofs.Common.{◌≡◌, ◌≢◌, ◌⊎◌, inl, inr, ◌+◌, Option, Some, None, Bool, true, false, refl, sym, ap, ◌∙◌}
 use Rattle.std.proofs.Common.{subst, arith, [], ◌∷◌}
 use Rattle.std.specs.Prelude.{if◌then◌else◌, is_some}
-use Rattle.lk_abs.specs.declared.names.Waiter.{Waiter}
+use Rattle.lk_names.specs.declared.names.Waiter.{Waiter}
 use Rattle.lk_word.specs.declared.spin_word.NodeName.{NodeName}
 use Rattle.lk_word.specs.declared.spin_word.Fields.{Fields}
 use Rattle.lk_word.specs.declared.spin_word.Locked.TheVariants.{Held}
@@ -33,7 +33,7 @@ use Rattle.lk_law.specs.Steps.{led, sight_in}
 use Rattle.lk_law.specs.Registers.{hands_plainly}
 use Rattle.lk_law.proofs.common.Sames.{same_waiter-self}
 use Rattle.lk_law.proofs.running.Leads.{row_is_done}
-use Rattle.lk_abs.specs.Names.{same_waiter}
+use Rattle.lk_names.specs.Names.{same_waiter}
 
 -- a head that may turn on the spot
 abbrev pub IsTurn : Pc → Type 0
@@ -151,7 +151,7 @@ module _ (m : World) (w : Waiter) (f : Frame) (inner : f.lock.wait ≡ true → 
       by : (b : Bool) → (led f (if b then record {
         stores = Some (record (m.word f.lock) { tail = f.t });
         leads = Rattle.lk_rows.specs.Row.Goes C7 (Y f.second ∷ Second None ∷ []);
-        tells = Rattle.lk_rows.specs.Row.Says (Rattle.lk_abs.specs.declared.events.What.TheVariants.Promote f.lock);
+        tells = Rattle.lk_rows.specs.Row.Says (Rattle.lk_names.specs.declared.events.What.TheVariants.Promote f.lock);
         counts = [];
       } else Rattle.lk_rows.specs.Row.looks C1).leads).place ≡ Some C10 → ⊥
       by true e = cc e

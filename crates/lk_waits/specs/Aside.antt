@@ -1,8 +1,8 @@
 -- The theorem for the family in which waiters are moved aside.
 use Rattle.std.specs.Prelude.{◌<◌, ◌≡◌, ◌⊎◌, ℕ, Some, Bool, true, false, is_some}
-use Rattle.lk_abs.specs.History.{LockHistory}
-use Rattle.lk_abs.specs.declared.names.Waiter.{Waiter}
-use Rattle.lk_abs.specs.declared.names.LockName.{LockName}
+use Rattle.lk_names.specs.History.{LockHistory}
+use Rattle.lk_names.specs.declared.names.Waiter.{Waiter}
+use Rattle.lk_names.specs.declared.names.LockName.{LockName}
 use Rattle.lk_rows.specs.declared.parts.Frame.{Frame}
 use Rattle.lk_rows.specs.declared.parts.Pc.{Pc}
 use Rattle.lk_rows.specs.declared.parts.Pc.TheVariants.{C1, C3, C10, G1, G9}

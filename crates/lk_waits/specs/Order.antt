@@ -2,11 +2,11 @@
 -- comes to a deadlock.
 use Rattle.std.specs.Prelude.{◌≡◌, ◌≢◌, ◌<◌, ◌≤◌, ◌⊎◌, ◌+◌, ◌*◌, ℕ, Some, None, Bool, true, false}
 use Rattle.std.specs.Prelude.{if◌then◌else◌}
-use Rattle.lk_abs.specs.History.{LockHistory}
-use Rattle.lk_abs.specs.declared.holder.Manner.{Manner}
-use Rattle.lk_abs.specs.declared.holder.Manner.TheVariants.{Reads}
-use Rattle.lk_abs.specs.declared.names.Waiter.{Waiter}
-use Rattle.lk_abs.specs.declared.names.LockName.{LockName}
+use Rattle.lk_names.specs.History.{LockHistory}
+use Rattle.lk_names.specs.declared.holder.Manner.{Manner}
+use Rattle.lk_names.specs.declared.holder.Manner.TheVariants.{Reads}
+use Rattle.lk_names.specs.declared.names.Waiter.{Waiter}
+use Rattle.lk_names.specs.declared.names.LockName.{LockName}
 use Rattle.lk_rows.specs.declared.parts.Frame.{Frame}
 use Rattle.lk_rows.specs.declared.parts.Pc.{Pc}
 use Rattle.lk_rows.specs.declared.parts.Pc.TheVariants.{P2, G1, G2, G3, G4, G9, G10, N1, N2, R2}

@@ -1,7 +1,7 @@
 -- At which rows a frame may stand still, and what it means that it does.
 use Rattle.std.specs.Prelude.{◌≡◌, ◌⊎◌, Some, None, Bool, true, false}
-use Rattle.lk_abs.specs.declared.names.Waiter.{Waiter}
-use Rattle.lk_abs.specs.declared.names.LockName.{LockName}
+use Rattle.lk_names.specs.declared.names.Waiter.{Waiter}
+use Rattle.lk_names.specs.declared.names.LockName.{LockName}
 use Rattle.lk_rows.specs.declared.parts.Frame.{Frame}
 use Rattle.lk_rows.specs.declared.parts.Pc.{Pc}
 use Rattle.lk_rows.specs.declared.parts.Pc.TheVariants.{V1, P3, G6, G7, G10}

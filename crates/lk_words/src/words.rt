@@ -10,7 +10,7 @@ use crate::asked::Reading;
 use crate::command::qlock;
 use clap::error::ErrorKind;
 use clap::{ArgMatches, Error};
-use lk_abs::Memory;
+use lk_names::Memory;
 use lk_text::read_number;
 use std::alloc::Global;
 

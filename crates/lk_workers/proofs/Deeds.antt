@@ -4,12 +4,12 @@ use Rattle.std.specs.Prelude.{is_none, is_some}
 use Rattle.std.specs.List.{All, AllZip}
 use Rattle.std.proofs.lemmas.List.{append-nil, append_assoc}
 use Rattle.std.proofs.lemmas.List.Elements.{All-nil, All-cons}
-use Rattle.lk_abs.specs.Jobs.{reply_to}
-use Rattle.lk_abs.specs.Journal.{balances_after, is_write}
-use Rattle.lk_abs.specs.declared.ledger.Entry.{Entry}
-use Rattle.lk_abs.specs.declared.ledger.Job.{Job}
-use Rattle.lk_abs.specs.declared.ledger.Seen.{Seen}
-use Rattle.lk_abs.specs.Outcome.{IsReadAt, label_of, tag_of, reads_from, writes_from}
+use Rattle.lk_names.specs.Jobs.{reply_to}
+use Rattle.lk_names.specs.Journal.{balances_after, is_write}
+use Rattle.lk_names.specs.declared.ledger.Entry.{Entry}
+use Rattle.lk_names.specs.declared.ledger.Job.{Job}
+use Rattle.lk_names.specs.declared.ledger.Seen.{Seen}
+use Rattle.lk_names.specs.Outcome.{IsReadAt, label_of, tag_of, reads_from, writes_from}
 use Rattle.lk_domain.specs.Ends.{In}
 use Rattle.lk_domain.specs.Keeps.{AreEnded, IsEnded, IsVersion}
 use Rattle.lk_domain.specs.Ledgers.{Ledger, Look}

@@ -2,9 +2,9 @@
 use Rattle.std.proofs.Common.{◌≡◌, ◌≢◌, ◌+◌, ◌<◌, ◌==◌, ℕ, zero, suc, Bool, true, false, List, [], ◌∷◌, ◌++◌, inl, inr, length, map, get_or, if◌then◌else◌, refl, ap, subst, ◌∙◌, arith, eq-eqb, ne_eqb}
 use Rattle.std.proofs.lemmas.List.{append-nil, map-append}
 use Rattle.std.specs.List.{flat_map}
-use Rattle.lk_abs.specs.declared.ledger.Job.{Job}
-use Rattle.lk_abs.specs.declared.ledger.Seen.{Seen}
-use Rattle.lk_abs.specs.Outcome.{asked_from, reads_from, tag_of}
+use Rattle.lk_names.specs.declared.ledger.Job.{Job}
+use Rattle.lk_names.specs.declared.ledger.Seen.{Seen}
+use Rattle.lk_names.specs.Outcome.{asked_from, reads_from, tag_of}
 use Rattle.lk_domain.specs.Ends.{In}
 use Rattle.lk_workers.specs.UnderLock.{records_by}
 use Rattle.lk_workers.proofs.Deeds.{tagged}

@@ -4,12 +4,12 @@ use Rattle.std.specs.List.{flat_map, sum_by}
 use Rattle.std.proofs.lemmas.Bool.{cases_lt}
 use Rattle.std.proofs.lemmas.List.{get_or_past, length-map}
 use Rattle.std.proofs.Math.ListN.{get_or-map}
-use Rattle.lk_abs.specs.Journal.{Replays, balances_after}
-use Rattle.lk_abs.specs.declared.ledger.Entry.{Entry}
-use Rattle.lk_abs.specs.declared.ledger.Job.{Job}
-use Rattle.lk_abs.specs.declared.ledger.Seen.{Seen}
-use Rattle.lk_abs.specs.Workload.{Workload, jobs_of, workers_of}
-use Rattle.lk_abs.specs.Outcome.{IsFresh, IsMerge, IsOutcome, IsReadAt, label_of, writes_from}
+use Rattle.lk_names.specs.Journal.{Replays, balances_after}
+use Rattle.lk_names.specs.declared.ledger.Entry.{Entry}
+use Rattle.lk_names.specs.declared.ledger.Job.{Job}
+use Rattle.lk_names.specs.declared.ledger.Seen.{Seen}
+use Rattle.lk_names.specs.Workload.{Workload, jobs_of, workers_of}
+use Rattle.lk_names.specs.Outcome.{IsFresh, IsMerge, IsOutcome, IsReadAt, label_of, writes_from}
 use Rattle.lk_domain.specs.Ends.{In, IsFinalOf, past_at}
 use Rattle.lk_domain.specs.Keeps.{AreEnded, IsPast}
 use Rattle.lk_domain.specs.Ledgers.{Ledger, Look, with_share}

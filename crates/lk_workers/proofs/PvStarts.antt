@@ -3,9 +3,9 @@ use Rattle.std.proofs.Common.{◌≡◌, ◌<◌, ℕ, List, length, get_or, sym
 use Rattle.std.proofs.lemmas.List.{length-map}
 use Rattle.std.specs.Prelude.{replicate}
 use Rattle.std.specs.List.{sum}
-use Rattle.lk_abs.specs.Jobs.{full}
-use Rattle.lk_abs.specs.declared.names.Mode.TheVariants.{Pv}
-use Rattle.lk_abs.specs.Workload.{IsLawful, Workload, workers_of}
+use Rattle.lk_names.specs.Jobs.{full}
+use Rattle.lk_names.specs.declared.names.Mode.TheVariants.{Pv}
+use Rattle.lk_names.specs.Workload.{IsLawful, Workload, workers_of}
 use Rattle.lk_law.specs.Agree.{halts}
 use Rattle.lk_domain.specs.Calls.{Calls}
 use Rattle.lk_domain.specs.Ledgers.{Ledger}

@@ -5,13 +5,13 @@ use Rattle.std.proofs.Math.ListN.{get_or-map}
 use Rattle.std.specs.Prelude.{slice_get, false}
 use Rattle.std.specs.List.{sum}
 use Rattle.std.proofs.lemmas.Option.{slice_get_within, get_or_from_slice_get}
-use Rattle.lk_abs.specs.Jobs.{full}
-use Rattle.lk_abs.specs.ListOf.{ListOf}
-use Rattle.lk_abs.specs.declared.ledger.Job.{Job}
-use Rattle.lk_abs.specs.declared.ledger.Seen.{Seen}
-use Rattle.lk_abs.specs.declared.names.Kind.TheVariants.{Spin}
-use Rattle.lk_abs.specs.Workload.{IsLawful, Workload, jobs_of, workers_of, workload_of}
-use Rattle.lk_abs.specs.declared.job_file.JobFile.{JobFile}
+use Rattle.lk_names.specs.Jobs.{full}
+use Rattle.lk_names.specs.ListOf.{ListOf}
+use Rattle.lk_names.specs.declared.ledger.Job.{Job}
+use Rattle.lk_names.specs.declared.ledger.Seen.{Seen}
+use Rattle.lk_names.specs.declared.names.Kind.TheVariants.{Spin}
+use Rattle.lk_names.specs.Workload.{IsLawful, Workload, jobs_of, workers_of, workload_of}
+use Rattle.lk_names.specs.declared.job_file.JobFile.{JobFile}
 use Rattle.lk_domain.specs.Calls.{Calls}
 use Rattle.lk_domain.specs.Ends.{AllRest}
 use Rattle.lk_domain.specs.Ledgers.{Ledger, with_share}

@@ -1,10 +1,10 @@
 -- What is read of the end of a domain, of whichever family.
 use Rattle.std.specs.Prelude.{◌≡◌, ◌≢◌, ℕ, List, map}
-use Rattle.lk_abs.specs.Journal.{balances_after}
-use Rattle.lk_abs.specs.declared.ledger.Entry.{Entry}
-use Rattle.lk_abs.specs.declared.names.Kind.{Kind}
-use Rattle.lk_abs.specs.declared.names.Mode.{Mode}
-use Rattle.lk_abs.specs.declared.names.Mode.TheVariants as mode
+use Rattle.lk_names.specs.Journal.{balances_after}
+use Rattle.lk_names.specs.declared.ledger.Entry.{Entry}
+use Rattle.lk_names.specs.declared.names.Kind.{Kind}
+use Rattle.lk_names.specs.declared.names.Mode.{Mode}
+use Rattle.lk_names.specs.declared.names.Mode.TheVariants as mode
 use Rattle.lk_domain.specs.Ends.{IsFinalOf}
 use Rattle.lk_domain.specs.Ledgers.{Look}
 use Rattle.lk_domain.specs.Plans.{kind_at}

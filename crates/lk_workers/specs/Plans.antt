@@ -1,6 +1,6 @@
 -- The plan of the domain that a job file asks for.
 use Rattle.std.specs.Prelude.{◌≡◌, [], ◌∷◌, map}
-use Rattle.lk_abs.specs.Workload.{IsLawful, Workload, workers_of}
+use Rattle.lk_names.specs.Workload.{IsLawful, Workload, workers_of}
 use Rattle.lk_domain.specs.Plans.{cpus_of}
 use Rattle.lk_domain.specs.declared.plan.Plan.{Plan}
 use Rattle.lk_guard.specs.Deeds.{writes_in}

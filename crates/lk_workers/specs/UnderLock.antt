@@ -2,9 +2,9 @@
 use Rattle.std.specs.Prelude.{◌≡◌, ◌<◌, ◌*◌, ◌==◌, ℕ, Bool, List, [], Some, All, filter, length, replicate}
 use Rattle.std.specs.Prelude.{if◌then◌else◌, is_none, is_some, slice_index_or}
 use Rattle.std.specs.List.{AllZip}
-use Rattle.lk_abs.specs.declared.ledger.Job.{Job}
-use Rattle.lk_abs.specs.declared.ledger.Seen.{Seen}
-use Rattle.lk_abs.specs.Workload.{Workload, workers_of, jobs_of}
+use Rattle.lk_names.specs.declared.ledger.Job.{Job}
+use Rattle.lk_names.specs.declared.ledger.Seen.{Seen}
+use Rattle.lk_names.specs.Workload.{Workload, workers_of, jobs_of}
 use Rattle.lk_domain.specs.Calls.{Terms}
 use Rattle.lk_domain.specs.Ledgers.{Look}
 use Rattle.lk_law.specs.Agree.{halts}

@@ -1,10 +1,10 @@
 -- The workers before and after their jobs.
 use Rattle.std.specs.Prelude.{◌≡◌, ◌<◌, ℕ, List, [], length, slice_index_or}
 use Rattle.std.specs.List.{flat_map}
-use Rattle.lk_abs.specs.ListOf.{ListOf}
-use Rattle.lk_abs.specs.declared.ledger.Job.{Job}
-use Rattle.lk_abs.specs.declared.ledger.Seen.{Seen}
-use Rattle.lk_abs.specs.Workload.{Workload, jobs_of}
+use Rattle.lk_names.specs.ListOf.{ListOf}
+use Rattle.lk_names.specs.declared.ledger.Job.{Job}
+use Rattle.lk_names.specs.declared.ledger.Seen.{Seen}
+use Rattle.lk_names.specs.Workload.{Workload, jobs_of}
 use Rattle.lk_domain.specs.Ledgers.{with_share}
 use Rattle.lk_domain.specs.Plans.{share_of}
 use Rattle.lk_domain.specs.Views.{newcomer}

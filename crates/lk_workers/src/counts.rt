@@ -1,11 +1,11 @@
 // How many entries and records the jobs of a file will leave.
 ghost use Rattle.std.specs.Prelude.{◌≡◌, ◌<◌, ◌^◌, IfOk, length, map};
 ghost use Rattle.std.specs.List.{sum_by};
-ghost use Rattle.lk_abs.specs.Workload.{IsLawful, workload_of};
+ghost use Rattle.lk_names.specs.Workload.{IsLawful, workload_of};
 ghost use Rattle.lk_guard.specs.Deeds.{reads_in, writes_in};
 
-use lk_abs::{Job, JobFile, List, Memory};
 use lk_guard::writes;
+use lk_names::{Job, JobFile, List, Memory};
 use std::alloc::Global;
 
 // How many of the jobs write.

@@ -2,8 +2,8 @@
 ghost use Rattle.std.specs.Prelude.{◌≡◌};
 ghost use Rattle.lk_workers.specs.Ended.{balances_in, journal_in};
 
-use lk_abs::{Entry, List};
 use lk_domain::Closed;
+use lk_names::{Entry, List};
 use lk_pvdomain::PvClosed;
 
 /// What the domain of a job file left, by the family of its locks.

@@ -1,8 +1,8 @@
 // The region on which the jobs of a file are run, of whichever family.
 ghost use Rattle.std.specs.Prelude.{◌≡◌, IfOk, false, length};
-ghost use Rattle.lk_abs.specs.Workload.{IsLawful, workers_of, workload_of};
-ghost use Rattle.lk_abs.specs.declared.names.Mode.{Mode};
-ghost use Rattle.lk_abs.specs.declared.names.Mode.TheVariants.{Pv};
+ghost use Rattle.lk_names.specs.Workload.{IsLawful, workers_of, workload_of};
+ghost use Rattle.lk_names.specs.declared.names.Mode.{Mode};
+ghost use Rattle.lk_names.specs.declared.names.Mode.TheVariants.{Pv};
 ghost use Rattle.lk_domain.specs.Plans.{cpus_of};
 ghost use Rattle.lk_guard.specs.Idle.{crew_of, pv_crew_of};
 ghost use Rattle.lk_law.specs.Agree.{halts};
@@ -12,9 +12,9 @@ ghost use Rattle.lk_workers.specs.Workers.{InOrder, IsDealt, Rests};
 
 use crate::ended::Ended;
 use crate::making::{plan_of, pv_plan_of};
-use lk_abs::{JobFile, List, Memory};
 use lk_domain::{Cpu, Domain, close};
 use lk_guard::{Guarded, PvRegion, Region};
+use lk_names::{JobFile, List, Memory};
 use lk_pvdomain::{PvCpu, PvDomain, pv_close};
 use std::alloc::Global;
 

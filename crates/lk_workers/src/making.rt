@@ -1,6 +1,6 @@
 // The plan of a domain for a file, and its workers.
 ghost use Rattle.std.specs.Prelude.{◌≡◌, IfOk, false, length, map};
-ghost use Rattle.lk_abs.specs.Workload.{IsLawful, workers_of, workload_of};
+ghost use Rattle.lk_names.specs.Workload.{IsLawful, workers_of, workload_of};
 ghost use Rattle.lk_law.specs.Agree.{halts};
 ghost use Rattle.lk_domain.specs.Plans.{IsLawfulPlan};
 ghost use Rattle.lk_pvdomain.specs.PvPlans.{IsLawful as IsLawfulPv};
@@ -9,8 +9,8 @@ ghost use Rattle.lk_workers.specs.Workers.{cpu_of, no_records, reads_of};
 
 use crate::counts::{count_reads, entry_counts};
 use crate::worker::Worker;
-use lk_abs::{JobFile, List, Memory, Topology};
 use lk_domain::Plan;
+use lk_names::{JobFile, List, Memory, Topology};
 use lk_pvdomain::PvPlan;
 use std::alloc::Global;
 

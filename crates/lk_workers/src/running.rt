@@ -1,7 +1,7 @@
 // The jobs of a file are run, and the domain is closed.
 ghost use Rattle.std.specs.Prelude.{◌≡◌, ◌+◌, ◌++◌, ◌≤◌, [], IfOk, length, map};
-ghost use Rattle.lk_abs.specs.Outcome.{IsOutcome};
-ghost use Rattle.lk_abs.specs.Workload.{IsLawful, workload_of};
+ghost use Rattle.lk_names.specs.Outcome.{IsOutcome};
+ghost use Rattle.lk_names.specs.Workload.{IsLawful, workload_of};
 ghost use Rattle.lk_workers.specs.Ended.{IsEndOf, balances_in, journal_in, looks_in};
 ghost use Rattle.lk_workers.specs.UnderLock.{UnderLock};
 ghost use Rattle.lk_workers.specs.Workers.{all_records, cpu_of};
@@ -11,8 +11,8 @@ use crate::ended::Ended;
 use crate::host::Host;
 use crate::making::hire;
 use crate::worker::{Worker, run_all};
-use lk_abs::{JobFile, List, Memory, Mode, Seen};
 use lk_guard::{Gate, PvRegion, Region};
+use lk_names::{JobFile, List, Memory, Mode, Seen};
 use std::alloc::Global;
 use std::sync::Wait;
 use std::thread::Threads;

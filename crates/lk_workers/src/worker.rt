@@ -1,11 +1,11 @@
 // A worker, and all workers at once.
 ghost use Rattle.std.specs.Prelude.{◌≡◌, ◌<◌, length};
-ghost use Rattle.lk_abs.specs.Workload.{jobs_of, workers_of, workload_of};
+ghost use Rattle.lk_names.specs.Workload.{jobs_of, workers_of, workload_of};
 ghost use Rattle.lk_workers.specs.Plans.{IsFor};
 ghost use Rattle.lk_workers.specs.Workers.{AreReady, AreThrough, IsReady, IsThrough};
 
-use lk_abs::{JobFile, List, Seen};
 use lk_guard::{Gate, Guarded};
+use lk_names::{JobFile, List, Seen};
 use std::sync::Wait;
 use std::thread;
 use std::thread::Threads;

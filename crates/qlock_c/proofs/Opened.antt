@@ -3,7 +3,7 @@ use Rattle.std.proofs.Common.{◌≡◌, ◌≢◌, ◌<◌, ◌≤◌, ◌+◌,
 use Rattle.std.specs.List.{slice_get}
 use Rattle.std.proofs.lemmas.Bool.{cases_Bool, eqb-true, eq-eqb, true≢false}
 use Rattle.std.proofs.lemmas.Option.{none-some, same_Some}
-use Rattle.lk_abs.proofs.Places.{slice_get-set_same, slice_get-set_other}
+use Rattle.lk_names.proofs.Places.{slice_get-set_same, slice_get-set_other}
 use Rattle.lk_domain.specs.declared.domain.Domain.{Domain}
 use Rattle.lk_pvdomain.specs.declared.domain.PvDomain.{PvDomain}
 use Rattle.lk_port.specs.Opened.{ArePortsOf, IsPortOf}

@@ -1,7 +1,7 @@
 -- What opening leaves in the handles.
 use Rattle.std.specs.Prelude.{◌≡◌, ℕ, ◌==◌, List, Option, Some, None, length, map, slice_get, if◌then◌else◌}
-use Rattle.lk_abs.specs.declared.names.Kind.{Kind}
-use Rattle.lk_abs.specs.declared.names.Kind.TheVariants.{Spin, Rw}
+use Rattle.lk_names.specs.declared.names.Kind.{Kind}
+use Rattle.lk_names.specs.declared.names.Kind.TheVariants.{Spin, Rw}
 use Rattle.lk_domain.specs.declared.domain.Domain.{Domain}
 use Rattle.lk_port.specs.Asking.{cpu_in, domain_in}
 use Rattle.lk_port.specs.Opened.{IsPlanFor, mode_of}

@@ -8,8 +8,8 @@ ghost use Rattle.qlock_c.specs.Opened.{family_numbered, kind_numbered};
 use crate::codes::{IN_USE, MEMORY, RANGE, fault_code};
 use crate::processor::{Processor, put, take};
 use crate::pv_opening::open_halting;
-use lk_abs::{Kind, List, Memory};
 use lk_domain::{MOST_CPUS, MOST_LOCKS};
+use lk_names::{Kind, List, Memory};
 use lk_port::{AnyPort, Family, Port, open};
 use std::alloc::Global;
 

@@ -1,6 +1,6 @@
 // The calls of a reader.
 ghost use Rattle.std.specs.Prelude.{◌≡◌};
-ghost use Rattle.lk_abs.specs.declared.holder.Manner.TheVariants.{Reads};
+ghost use Rattle.lk_names.specs.declared.holder.Manner.TheVariants.{Reads};
 ghost use Rattle.lk_rows.specs.declared.parts.Pc.TheVariants.{Z1};
 ghost use Rattle.lk_rows.specs.declared.setup.Verb.TheVariants.{Read, TryRead};
 ghost use Rattle.lk_port.specs.AnyPorts.{Enters, EntersAtOnce, Leaves};

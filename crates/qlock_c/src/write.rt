@@ -1,6 +1,6 @@
 // The calls of a writer.
 ghost use Rattle.std.specs.Prelude.{◌≡◌};
-ghost use Rattle.lk_abs.specs.declared.holder.Manner.TheVariants.{Writes};
+ghost use Rattle.lk_names.specs.declared.holder.Manner.TheVariants.{Writes};
 ghost use Rattle.lk_rows.specs.declared.parts.Pc.TheVariants.{Z2};
 ghost use Rattle.lk_rows.specs.declared.setup.Verb.TheVariants.{Write, TryWrite};
 ghost use Rattle.lk_port.specs.AnyPorts.{Enters, EntersAtOnce, Leaves};

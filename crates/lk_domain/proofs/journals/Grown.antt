@@ -8,7 +8,7 @@ use mathlib.Core.Option.{some}
 use native.Mathlib.Decide.{ℕ_discrete}
 use lib.ListN.{get_elem?}
 use Rattle.atomic_table.specs.Table.{State}
-use Rattle.lk_abs.specs.declared.ledger.Entry.{Entry}
+use Rattle.lk_names.specs.declared.ledger.Entry.{Entry}
 use Rattle.lk_law.proofs.common.Puts.{if-false}
 use Rattle.lk_domain.specs.Places.{places, places_from, AllOf}
 use Rattle.lk_domain.specs.Keeps.{Slot, Knows, IsOpen, IsEnded, AreEnded, ArePast, IsSight, holds_first}

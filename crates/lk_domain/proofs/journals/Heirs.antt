@@ -4,7 +4,7 @@ use Rattle.std.proofs.Common.{Option, Some, None, sym, refl, ap, ◌∙◌, subs
 use Rattle.std.proofs.lemmas.List.{get_or-take, get_or_default, take-take, take_at}
 use mathlib.Core.Logic.{dite}
 use native.Mathlib.Decide.{ℕ_discrete}
-use Rattle.lk_abs.specs.declared.ledger.Entry.{Entry}
+use Rattle.lk_names.specs.declared.ledger.Entry.{Entry}
 use Rattle.lk_domain.specs.Calls.{Calls}
 use Rattle.lk_domain.specs.Ends.{In, past_at, HasPast, IsEnd, IsFinalOf}
 use Rattle.lk_domain.specs.Keeps.{IsPast, ArePast}

@@ -10,7 +10,7 @@ use Rattle.atomic_table.specs.Seated.{TableId}
 use Rattle.atomic_table.specs.Table.{State, Final, Seen}
 use Rattle.lk_values.specs.Guarded.{AreFit, AreIdle}
 use Rattle.lk_values.proofs.Guards.{idle_is_home}
-use Rattle.lk_abs.specs.declared.ledger.Entry.{Entry}
+use Rattle.lk_names.specs.declared.ledger.Entry.{Entry}
 use Rattle.lk_domain.specs.Calls.{Calls, Hold, no_calls, way_in}
 use Rattle.lk_domain.specs.Ends.{IsEnd}
 use Rattle.lk_domain.specs.Keeps.{Slot, Keeps, AtHome, Away, balance, sole_count}

@@ -6,12 +6,12 @@ use lib.ListN.{get_elem?}
 use lib.Seq.{set-get_or}
 use Rattle.atomic_table.specs.Table.{State, Me, Step, keeps, takes, Allows}
 use Rattle.atomic_table.proofs.Lists.{at_set, set_here}
-use Rattle.lk_abs.specs.Jobs.{after_job, given, taken, is_short, has_room}
-use Rattle.lk_abs.specs.declared.ledger.Entry.{Entry}
-use Rattle.lk_abs.specs.declared.ledger.Job.{Job}
-use Rattle.lk_abs.specs.declared.ledger.Job.TheVariants.{Move, Add, Sum, Get}
+use Rattle.lk_names.specs.Jobs.{after_job, given, taken, is_short, has_room}
+use Rattle.lk_names.specs.declared.ledger.Entry.{Entry}
+use Rattle.lk_names.specs.declared.ledger.Job.{Job}
+use Rattle.lk_names.specs.declared.ledger.Job.TheVariants.{Move, Add, Sum, Get}
 use Rattle.lk_law.proofs.common.Puts.{if_cases}
-use Rattle.lk_abs.specs.Journal.{balances_after, Replays}
+use Rattle.lk_names.specs.Journal.{balances_after, Replays}
 use Rattle.lk_domain.specs.Keeps.{Slot, Keeps, Knows, AtHome, IsOpen, balance, undrawn}
 use Rattle.lk_domain.specs.Keeps.{holds_first, alone_first}
 use Rattle.lk_domain.specs.Ledgers.{Ledger, Look, Out, no_ledger, loaded, sighted, taken_out, look_loads}

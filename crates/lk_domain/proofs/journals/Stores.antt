@@ -8,9 +8,9 @@ use native.Mathlib.Decide.{ℕ_discrete}
 use lib.ListN.{get_elem?}
 use Rattle.atomic_table.specs.Table.{State, Me, Step, keeps, gives, rest, Allows}
 use Rattle.atomic_table.proofs.Lists.{at_set, set_here}
-use Rattle.lk_abs.specs.declared.ledger.Entry.{Entry}
+use Rattle.lk_names.specs.declared.ledger.Entry.{Entry}
 use Rattle.lk_domain.specs.Places.{AllOf, places, places_from}
-use Rattle.lk_abs.specs.Journal.{Replays}
+use Rattle.lk_names.specs.Journal.{Replays}
 use Rattle.lk_domain.specs.Keeps.{Slot, Keeps, Knows, Away, ArePast, AreEnded, balance, undrawn, holds_first}
 use Rattle.lk_domain.specs.Ledgers.{Ledger, Out, no_ledger, stored, brought}
 use Rattle.lk_domain.specs.Plans.{IsRunningPlan, accounts_of, locks_of}

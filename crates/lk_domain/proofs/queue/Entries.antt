@@ -5,8 +5,8 @@ use Rattle.std.specs.Prelude.{if◌then◌else◌}
 use mathlib.Core.Option.{Option as Maybe, some}
 use lib.ListN.{get_elem?}
 use Rattle.atomic_table.specs.Table.{State}
-use Rattle.lk_abs.specs.declared.names.Waiter.{Waiter}
-use Rattle.lk_abs.specs.declared.names.LockName.{LockName}
+use Rattle.lk_names.specs.declared.names.Waiter.{Waiter}
+use Rattle.lk_names.specs.declared.names.LockName.{LockName}
 use Rattle.lk_word.specs.declared.spin_word.NodeName.{NodeName}
 use Rattle.lk_word.specs.declared.spin_word.Fields.{Fields}
 use Rattle.lk_word.specs.SpinWord.{packed}
@@ -30,7 +30,7 @@ use Rattle.lk_domain.specs.Words.{word_at, node_at, node_number, stored_number, 
 use Rattle.lk_domain.specs.declared.part.Part.{Part}
 use Rattle.lk_domain.specs.declared.plan.Plan.{Plan}
 use Rattle.lk_domain.specs.declared.view.View.{View}
-use Rattle.lk_abs.specs.declared.names.Kind.{Kind}
+use Rattle.lk_names.specs.declared.names.Kind.{Kind}
 use Rattle.lk_law.specs.SoundWorld.{is_rw_name}
 use Rattle.lk_domain.proofs.rows.Grips.{plain_name}
 use Rattle.lk_domain.proofs.rows.Lands as lands
@@ -39,8 +39,8 @@ use Rattle.lk_domain.proofs.rows.Poised.{Poised}
 use Rattle.lk_domain.proofs.rows.Kept.{counted_after, halting_same}
 use Rattle.lk_domain.proofs.rows.Halts.{SameMarks, marks_trans, acted_marks, stored_marks, far_set, seeks_same}
 use Rattle.lk_domain.specs.declared.part.Part.TheVariants as part
-use Rattle.lk_abs.specs.declared.names.Mode.{Mode}
-use Rattle.lk_abs.specs.declared.names.Mode.TheVariants.{Virt, Native, Cna, Pv}
+use Rattle.lk_names.specs.declared.names.Mode.{Mode}
+use Rattle.lk_names.specs.declared.names.Mode.TheVariants.{Virt, Native, Cna, Pv}
 use Rattle.lk_law.specs.Agree.{halts}
 use Rattle.lk_rows.specs.TopRow.{target}
 use Rattle.lk_domain.proofs.words.NodeWords.{low as low_part}

@@ -6,8 +6,8 @@ use Rattle.std.specs.Prelude.{is_some, ◌≤◌}
 use mathlib.Core.Option.{Option as Maybe, some}
 use lib.ListN.{get_elem?}
 use Rattle.atomic_table.specs.Table.{State}
-use Rattle.lk_abs.specs.declared.names.Waiter.{Waiter}
-use Rattle.lk_abs.specs.declared.names.LockName.{LockName}
+use Rattle.lk_names.specs.declared.names.Waiter.{Waiter}
+use Rattle.lk_names.specs.declared.names.LockName.{LockName}
 use Rattle.lk_word.specs.declared.spin_word.NodeName.{NodeName}
 use Rattle.lk_rows.specs.declared.parts.Flag.TheVariants.{Second}
 use Rattle.lk_rows.specs.declared.parts.Node.{Node}
@@ -16,7 +16,7 @@ use Rattle.lk_rows.specs.declared.parts.Pc.{Pc}
 use Rattle.lk_rows.specs.declared.parts.Pc.TheVariants.{G1}
 use Rattle.lk_rows.specs.declared.setup.Verb.{Verb}
 use Rattle.lk_rows.specs.TopRow.{target}
-use Rattle.lk_abs.specs.History.{LockHistory}
+use Rattle.lk_names.specs.History.{LockHistory}
 use Rattle.lk_rows.specs.Moves.{node_of}
 use Rattle.lk_law.specs.Families.{chooses}
 use Rattle.lk_law.specs.Known.{IsOwnNode}

@@ -1,8 +1,8 @@
 -- The marks of links where one is stored, and words that are none of the ledger.
 use Rattle.std.proofs.Common.{◌≡◌, ◌≢◌, inl, inr, ℕ, ◌<◌, ◌≤◌, Some}
 use Rattle.std.proofs.Common.{true, sym, ap, ◌∙◌, subst, arith}
-use Rattle.lk_abs.specs.declared.names.LockName.{LockName}
-use Rattle.lk_abs.specs.declared.names.Waiter.{Waiter}
+use Rattle.lk_names.specs.declared.names.LockName.{LockName}
+use Rattle.lk_names.specs.declared.names.Waiter.{Waiter}
 use Rattle.lk_word.specs.declared.spin_word.NodeName.{NodeName}
 use Rattle.lk_law.specs.Premises.{Uses}
 use Rattle.lk_law.specs.SpinWorld.{IsSoundSpinWorld}
@@ -12,7 +12,7 @@ use Rattle.lk_domain.specs.Words.{word_at, node_at, version_at, balance_at}
 use Rattle.lk_domain.specs.declared.part.Part.{Part}
 use Rattle.lk_domain.specs.declared.plan.Plan.{Plan}
 use Rattle.lk_domain.proofs.words.Locks.{word_from, word_below}
-use Rattle.lk_abs.specs.History.{LockHistory}
+use Rattle.lk_names.specs.History.{LockHistory}
 use Rattle.lk_domain.proofs.rows.Users.{AreRight, KeepsMarks}
 use Rattle.lk_domain.specs.Calls.{is_inner}
 use Rattle.lk_law.specs.Agree.{halts}

@@ -1,7 +1,7 @@
 -- The rows on the words of nodes free nothing.
 use Rattle.std.proofs.Common.{◌≡◌, ℕ, Option, Some, None}
-use Rattle.lk_abs.specs.declared.names.Mode.{Mode}
-use Rattle.lk_abs.specs.declared.names.Mode.TheVariants.{Virt, Native, Cna, Pv}
+use Rattle.lk_names.specs.declared.names.Mode.{Mode}
+use Rattle.lk_names.specs.declared.names.Mode.TheVariants.{Virt, Native, Cna, Pv}
 use Rattle.lk_word.specs.declared.spin_word.NodeName.{NodeName}
 use Rattle.lk_rows.specs.declared.parts.Flag.{Flag}
 use Rattle.lk_rows.specs.declared.parts.Flag.TheVariants.{Unset, Go, Second}

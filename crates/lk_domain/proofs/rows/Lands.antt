@@ -8,19 +8,19 @@ use Rattle.std.specs.Prelude.{◌&&◌, ◌||◌, not, is_some}
 use mathlib.Core.Option.{Option as Maybe, some}
 use lib.ListN.{get_elem?}
 use Rattle.atomic_table.specs.Table.{State}
-use Rattle.lk_abs.specs.declared.holder.Manner.{Manner}
-use Rattle.lk_abs.specs.declared.names.Kind.{Kind}
-use Rattle.lk_abs.specs.declared.names.Waiter.{Waiter}
-use Rattle.lk_abs.specs.declared.names.LockName.{LockName}
+use Rattle.lk_names.specs.declared.holder.Manner.{Manner}
+use Rattle.lk_names.specs.declared.names.Kind.{Kind}
+use Rattle.lk_names.specs.declared.names.Waiter.{Waiter}
+use Rattle.lk_names.specs.declared.names.LockName.{LockName}
 use Rattle.lk_word.specs.declared.spin_word.NodeName.{NodeName}
 use Rattle.lk_rows.specs.declared.parts.Node.{Node}
 use Rattle.lk_rows.specs.declared.parts.Frame.{Frame}
 use Rattle.lk_rows.specs.declared.parts.Pc.{Pc}
 use Rattle.lk_rows.specs.declared.parts.Pc.TheVariants.{C1, C2}
 use Rattle.lk_rows.specs.declared.setup.Verb.{Verb}
-use Rattle.lk_abs.specs.Lawful.{is_local, same_socket, stays}
-use Rattle.lk_abs.specs.declared.names.Format.{Format}
-use Rattle.lk_abs.specs.declared.names.Format.TheVariants.{One, Two}
+use Rattle.lk_names.specs.Lawful.{is_local, same_socket, stays}
+use Rattle.lk_names.specs.declared.names.Format.{Format}
+use Rattle.lk_names.specs.declared.names.Format.TheVariants.{One, Two}
 use Rattle.lk_law.specs.Premises.{IsShallow}
 use Rattle.lk_law.specs.Steps.{waiter_in}
 use Rattle.lk_domain.specs.Calls.{Outlook, is_inner, mark_of, sight_by, stays_by}

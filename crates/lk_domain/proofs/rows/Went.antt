@@ -4,14 +4,14 @@ use Rattle.std.proofs.Common.{◌≡◌, inr, ℕ, suc, ◌+◌, ◌≤◌, List
 use Rattle.std.proofs.Common.{Option, Some, None, Bool, true, false, eqb, eqb-true, refl, sym}
 use Rattle.std.proofs.Common.{ap, ◌∙◌, subst, arith}
 use Rattle.std.specs.Prelude.{if◌then◌else◌, ◌&&◌, is_some}
-use Rattle.lk_abs.specs.Names.{same_lock, same_waiter}
-use Rattle.lk_abs.specs.History.{LockHistory}
-use Rattle.lk_abs.specs.Lawful.{Rules}
-use Rattle.lk_abs.specs.declared.holder.Manner.{Manner}
-use Rattle.lk_abs.specs.declared.events.What.{What}
-use Rattle.lk_abs.specs.declared.events.What.TheVariants.{RTake, RRelease, WTake, WRelease}
-use Rattle.lk_abs.specs.declared.names.Waiter.{Waiter}
-use Rattle.lk_abs.specs.declared.names.LockName.{LockName}
+use Rattle.lk_names.specs.Names.{same_lock, same_waiter}
+use Rattle.lk_names.specs.History.{LockHistory}
+use Rattle.lk_names.specs.Lawful.{Rules}
+use Rattle.lk_names.specs.declared.holder.Manner.{Manner}
+use Rattle.lk_names.specs.declared.events.What.{What}
+use Rattle.lk_names.specs.declared.events.What.TheVariants.{RTake, RRelease, WTake, WRelease}
+use Rattle.lk_names.specs.declared.names.Waiter.{Waiter}
+use Rattle.lk_names.specs.declared.names.LockName.{LockName}
 use Rattle.lk_rows.specs.declared.parts.Frame.{Frame}
 use Rattle.lk_rows.specs.declared.parts.Pc.{Pc}
 use Rattle.lk_rows.specs.declared.setup.Verb.{Verb}

@@ -6,7 +6,7 @@ use Rattle.std.proofs.lemmas.Nat.{or_block}
 use Rattle.std.specs.Int.Bits.{bit_or, or_zero_r}
 use Rattle.std.specs.Prelude.{if◌then◌else◌, unwrap_or, ◌&&◌, not}
 use prog.Atomic.{either}
-use Rattle.lk_abs.specs.declared.names.Mode.{Mode}
+use Rattle.lk_names.specs.declared.names.Mode.{Mode}
 use Rattle.lk_word.specs.declared.rw_word.RwFields.{RwFields}
 use Rattle.lk_word.specs.RwWord.{packed_rw, IsPackableRw}
 use Rattle.lk_rows.specs.declared.parts.Frame.{Frame}

@@ -3,10 +3,10 @@ use Rattle.std.proofs.Common.{◌≡◌, inl, ℕ, ◌≤◌, length, Some, None
 use Rattle.std.proofs.Common.{Bool, true, false, eqb, refl, sym, ap, ◌∙◌, subst, arith}
 use Rattle.std.specs.Prelude.{if◌then◌else◌, not}
 use Rattle.atomic_table.specs.Table.{Me}
-use Rattle.lk_abs.specs.declared.holder.Manner.TheVariants.{Reads, Writes}
-use Rattle.lk_abs.specs.declared.names.LockName.{LockName}
-use Rattle.lk_abs.specs.declared.names.Mode.{Mode}
-use Rattle.lk_abs.specs.declared.names.Mode.TheVariants.{Virt, Native, Cna, Pv}
+use Rattle.lk_names.specs.declared.holder.Manner.TheVariants.{Reads, Writes}
+use Rattle.lk_names.specs.declared.names.LockName.{LockName}
+use Rattle.lk_names.specs.declared.names.Mode.{Mode}
+use Rattle.lk_names.specs.declared.names.Mode.TheVariants.{Virt, Native, Cna, Pv}
 use Rattle.lk_word.specs.declared.rw_word.RwFields.{RwFields}
 use Rattle.lk_word.specs.RwWord.{packed_rw}
 use Rattle.lk_rows.specs.declared.parts.Frame.{Frame}
@@ -17,8 +17,8 @@ use Rattle.lk_rows.specs.declared.setup.Verb.{Verb}
 use Rattle.lk_rows.specs.declared.setup.Verb.TheVariants.{Lock, Try, Unlock, Read, TryRead, RUnlock, Write}
 use Rattle.lk_rows.specs.declared.setup.Verb.TheVariants.{TryWrite, WUnlock}
 use Rattle.lk_rows.specs.Moves.{first_place, rw_name}
-use Rattle.lk_abs.specs.declared.events.RwHow.TheVariants as how
-use Rattle.lk_abs.specs.declared.events.What.TheVariants.{Miss}
+use Rattle.lk_names.specs.declared.events.RwHow.TheVariants as how
+use Rattle.lk_names.specs.declared.events.What.TheVariants.{Miss}
 use Rattle.lk_rows.specs.Row.{Effect, Done, looks, misses}
 use Rattle.lk_rows.specs.rows.Rw.{rw_row, is_open, is_empty, is_cleared, takes_written, queues_up}
 use Rattle.lk_rows.specs.rows.Rw.{frees_wait, rw_lock}

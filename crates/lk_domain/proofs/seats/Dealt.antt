@@ -12,9 +12,9 @@ use native.Mathlib.Decide.{ℕ_discrete}
 use lib.ListN.{get_elem?}
 use Rattle.atomic_table.specs.Table.{State, Me, Step, keeps, Allows, opening}
 use Rattle.atomic_table.proofs.Lists.{at_set, set_else, at_index, at_map}
-use Rattle.lk_abs.specs.History.{no_history, LockHistory}
+use Rattle.lk_names.specs.History.{no_history, LockHistory}
 use Rattle.lk_word.specs.declared.spin_word.Layout.{Layout}
-use Rattle.lk_abs.specs.declared.names.LockName.{LockName}
+use Rattle.lk_names.specs.declared.names.LockName.{LockName}
 use Rattle.lk_word.specs.declared.spin_word.NodeName.{NodeName}
 use Rattle.lk_rows.specs.declared.parts.Frame.{Frame}
 use Rattle.lk_law.specs.SoundWorld.{IsSoundWorld}

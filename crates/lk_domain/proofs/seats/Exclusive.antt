@@ -4,9 +4,9 @@ use Rattle.std.specs.Prelude.{if◌then◌else◌}
 use mathlib.Core.Option.{some}
 use lib.ListN.{get_elem?}
 use Rattle.atomic_table.specs.Table.{State}
-use Rattle.lk_abs.specs.Names.{same_lock}
-use Rattle.lk_abs.specs.declared.names.Waiter.{Waiter}
-use Rattle.lk_abs.specs.declared.holder.Manner.{Manner}
+use Rattle.lk_names.specs.Names.{same_lock}
+use Rattle.lk_names.specs.declared.names.Waiter.{Waiter}
+use Rattle.lk_names.specs.declared.holder.Manner.{Manner}
 use Rattle.lk_values.specs.Guarded.{IsExclusive}
 use Rattle.lk_domain.specs.Calls.{Calls, Hold, lock_name, hold_in, way_in}
 use Rattle.lk_domain.specs.Keeps.{Slot}

@@ -6,7 +6,7 @@ use mathlib.Core.Option.{some, some-injective, some-ne-none}
 use native.Mathlib.Decide.{ℕ_discrete}
 use lib.ListN.{get_elem?}
 use Rattle.atomic_table.specs.Table.{State}
-use Rattle.lk_abs.specs.declared.names.Waiter.{Waiter}
+use Rattle.lk_names.specs.declared.names.Waiter.{Waiter}
 use Rattle.lk_rows.specs.declared.parts.Frame.{Frame}
 use Rattle.lk_domain.specs.Calls.{frame_in}
 use Rattle.lk_domain.specs.Runs.{Runs, IsNobodys}

@@ -6,7 +6,7 @@ use Rattle.std.proofs.lemmas.Bool.{cases_eq}
 use Rattle.std.specs.Prelude.{not, if◌then◌else◌, ◌&&◌}
 use mir.Syntax.{w32}
 use mir.Val.{Fits, bool_byte}
-use Rattle.lk_abs.specs.ListOf.{ListOf}
+use Rattle.lk_names.specs.ListOf.{ListOf}
 use Rattle.lk_law.specs.Families.{is_slow}
 use Rattle.lk_domain.specs.Calls.{Running, Calls, slows, waits_in, slow_in, holds_in}
 use Rattle.lk_domain.specs.Marked.{Marks, lock_in, path_in, AreOrdered, IsNoted, Behind, nobody, one, Steps, upto, near_with, far_with, with_mark}

@@ -4,8 +4,8 @@ use Rattle.std.proofs.Common.{◌||◌, Option}
 use Rattle.lk_word.specs.declared.spin_word.NodeName.{NodeName}
 use Rattle.std.specs.Prelude.{◌&&◌, not}
 use Rattle.atomic_table.specs.Table.{Me}
-use Rattle.lk_abs.specs.declared.names.LockName.{LockName}
-use Rattle.lk_abs.specs.declared.names.Mode.{Mode}
+use Rattle.lk_names.specs.declared.names.LockName.{LockName}
+use Rattle.lk_names.specs.declared.names.Mode.{Mode}
 use Rattle.lk_rows.specs.declared.parts.Frame.{Frame}
 use Rattle.lk_rows.specs.declared.parts.Flag.TheVariants.{Unset}
 use Rattle.lk_rows.specs.declared.parts.Pc.{Pc}

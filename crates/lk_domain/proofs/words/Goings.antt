@@ -1,6 +1,6 @@
 -- What a step call of a call that goes on does is a use of the word.
 use Rattle.std.proofs.Common.{◌≡◌, ◌≢◌, Bool, true, false, refl, sym, ap, ◌∙◌}
-use Rattle.lk_abs.specs.declared.names.LockName.{LockName}
+use Rattle.lk_names.specs.declared.names.LockName.{LockName}
 use Rattle.lk_rows.specs.declared.parts.Pc.{Pc}
 use Rattle.lk_rows.specs.declared.parts.Pc.TheVariants.{V1, P0, P1, P2, P3, P4, G2, G7, G9, N1}
 use Rattle.lk_rows.specs.declared.setup.Verb.{Verb}

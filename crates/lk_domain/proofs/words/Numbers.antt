@@ -4,7 +4,7 @@ use Rattle.std.proofs.Common.{Bool, true, false, eqb, ne_eqb, refl, sym, ap, ◌
 use Rattle.std.proofs.lemmas.Bool.{cases_Bool}
 use Rattle.std.specs.Prelude.{if◌then◌else◌, unwrap_or, ◌&&◌, not, is_some}
 use prog.Atomic.{either}
-use Rattle.lk_abs.specs.declared.names.Mode.{Mode}
+use Rattle.lk_names.specs.declared.names.Mode.{Mode}
 use Rattle.lk_word.specs.declared.spin_word.NodeName.{NodeName}
 use Rattle.lk_word.specs.declared.spin_word.Locked.{Locked}
 use Rattle.lk_word.specs.declared.spin_word.Locked.TheVariants.{Free, Held, Slow}
@@ -21,7 +21,7 @@ use Rattle.lk_rows.specs.rows.Spin.{is_free, is_unlocked, held_word}
 use Rattle.lk_rows.specs.TopRow.{target}
 use Rattle.lk_law.specs.Leads.{course_in}
 use Rattle.lk_law.specs.World.{World}
-use Rattle.lk_abs.specs.declared.names.Waiter.{Waiter}
+use Rattle.lk_names.specs.declared.names.Waiter.{Waiter}
 use Rattle.lk_domain.specs.Calls.{grip_of, Frees}
 use Rattle.lk_domain.specs.Rows as kind
 use Rattle.lk_domain.proofs.words.OnWords.{OnWord, word_stores, KnownHere}

@@ -1,7 +1,7 @@
 // The entries of a ledger, in their order.
 ghost use Rattle.std.specs.Prelude.{◌≡◌, ◌<◌, [], ◌∷◌, ◌++◌, IfOk, length};
 
-use lk_abs::{Entry, List, Memory};
+use lk_names::{Entry, List, Memory};
 use std::alloc::Global;
 
 /// The entries of a ledger, in order. Its memory is taken when the journal is made.

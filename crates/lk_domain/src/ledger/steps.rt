@@ -2,7 +2,7 @@
 //! families are made of these.
 ghost use Rattle.std.specs.Prelude.{◌≡◌, ◌<◌, ◌≤◌, ◌+◌, ℕ, Option, Some, None, [], length, take, drop};
 ghost use Rattle.std.specs.Slots.{IsFull, slots_filled, slots_items, slots_len};
-ghost use Rattle.lk_abs.specs.Journal.{balances_after};
+ghost use Rattle.lk_names.specs.Journal.{balances_after};
 ghost use Rattle.lk_domain.specs.Ends.{AreTaken, IsEnd};
 ghost use Rattle.lk_domain.specs.Keeps.{holds_first, alone_first};
 ghost use Rattle.lk_domain.specs.Ledgers.{Out};
@@ -24,8 +24,8 @@ use crate::rule::{
 use crate::slot::{Slot, Stowed};
 use crate::view::View;
 use atomic_table::{Closed as Left, Table};
-use lk_abs::{Entry, List};
 use lk_cell::Key;
+use lk_names::{Entry, List};
 use std::alloc::Global;
 
 /// The table of a domain's words.

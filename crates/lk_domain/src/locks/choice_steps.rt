@@ -13,7 +13,7 @@ use super::{moves, node_moves};
 use crate::cpu::Cpu;
 use crate::domain::Domain;
 use crate::part::Link;
-use lk_abs::LockName;
+use lk_names::LockName;
 use lk_rows::Verb;
 use lk_word::NodeName;
 

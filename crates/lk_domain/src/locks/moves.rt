@@ -20,7 +20,7 @@ use crate::domain::Domain;
 use crate::ledger::steps::Words;
 use crate::plan::Plan;
 use crate::rule::{Exchanges, Locks, Tries, Unlocks, WordSteps};
-use lk_abs::LockName;
+use lk_names::LockName;
 use lk_word::{HELD, NodeName, PENDING, SLOW};
 
 /// What a row of a call that goes on does with the word of a spinlock or a wait lock, in one operation.

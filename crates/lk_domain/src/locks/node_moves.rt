@@ -20,7 +20,7 @@ use crate::rule::{
     Counts, Entries, FlagLooks, Handovers, LinkLooks, Linkings, Namings, Relinkings, Resets,
     RunsLooks, TailLooks,
 };
-use lk_abs::LockName;
+use lk_names::LockName;
 use lk_rows::Flag;
 use lk_word::NodeName;
 

@@ -21,7 +21,7 @@ use crate::cpu::Cpu;
 use crate::domain::Domain;
 use crate::notes::Standing;
 use crate::part::{Link, Part};
-use lk_abs::LockName;
+use lk_names::LockName;
 use lk_rows::{Flag, Verb};
 use lk_word::NodeName;
 

@@ -18,7 +18,7 @@ use super::rw_moves::{RwUse, act_by};
 use crate::cpu::Cpu;
 use crate::domain::Domain;
 use crate::notes::Standing;
-use lk_abs::LockName;
+use lk_names::LockName;
 use lk_rows::Verb;
 use lk_word::{has_no_writer, has_only_waiting, lets_readers_in};
 

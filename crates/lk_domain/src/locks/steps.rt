@@ -31,7 +31,7 @@ use super::{moves, rw_steps};
 use crate::cpu::{Cpu, Right};
 use crate::domain::Domain;
 use crate::notes::Standing;
-use lk_abs::LockName;
+use lk_names::LockName;
 use lk_rows::Verb;
 
 // A look by the seat.

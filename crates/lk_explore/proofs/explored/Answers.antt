@@ -1,5 +1,5 @@
 use Rattle.std.proofs.Common.{List, IfOk, subst}
-use Rattle.lk_abs.specs.declared.events.Act.{Act as ActValue}
+use Rattle.lk_names.specs.declared.events.Act.{Act as ActValue}
 use Rattle.lk_reach.specs.Reach.{AreMoves, state_after}
 use Rattle.lk_reach.specs.Explored.{KnowsLike}
 use Rattle.lk_reach.specs.Told.{IsWhole}

@@ -3,8 +3,8 @@ use Rattle.std.proofs.Common.{◌≡◌, inl, inr, ℕ, Option, Some, None, Bool
 use Rattle.std.proofs.Common.{◌∷◌, arith, ap, refl, sym, ◌∙◌, subst}
 use Rattle.std.specs.Prelude.{◌==◌, ◌&&◌, not}
 use Rattle.std.proofs.lemmas.Bool.{cases_Bool, eqb-true}
-use Rattle.lk_abs.specs.declared.holder.Manner.TheVariants.{Spins}
-use Rattle.lk_abs.specs.declared.events.What.TheVariants.{Flush, Promote}
+use Rattle.lk_names.specs.declared.holder.Manner.TheVariants.{Spins}
+use Rattle.lk_names.specs.declared.events.What.TheVariants.{Flush, Promote}
 use Rattle.lk_word.specs.declared.spin_word.NodeName.{NodeName}
 use Rattle.lk_word.specs.declared.spin_word.Fields.{Fields}
 use Rattle.lk_rows.specs.declared.parts.Node.{Node}
@@ -13,7 +13,7 @@ use Rattle.lk_rows.specs.declared.parts.Pc.TheVariants.{C1, C7, C8, C9, C10}
 use Rattle.lk_rows.specs.Moves.{is_node, node_of}
 use Rattle.lk_rows.specs.Row.{Tell, Says, Passes, Goes, Y, Second, looks}
 use Rattle.lk_rows.specs.Row.{Leaves}
-use Rattle.lk_abs.specs.Lawful.{is_local}
+use Rattle.lk_names.specs.Lawful.{is_local}
 use Rattle.lk_rows.specs.rows.Cna.{flag_for, is_held, is_last}
 use Rattle.lk_law.specs.Phase.{seeks}
 use Rattle.lk_law.specs.Phase.Phase.{Holds}

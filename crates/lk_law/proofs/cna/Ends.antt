@@ -1,7 +1,7 @@
 use Rattle.std.proofs.Common.{◌≡◌, ℕ, suc, Option, Some, None, Bool, true, List, [], ◌∷◌, ◌++◌}
 use Rattle.std.proofs.Common.{length, ◌⊎◌, inl, inr, arith, ap, refl, sym, ◌∙◌, subst, slice_get}
 use Rattle.std.proofs.Common.{drop, take}
-use Rattle.lk_abs.specs.declared.names.Waiter.{Waiter}
+use Rattle.lk_names.specs.declared.names.Waiter.{Waiter}
 use Rattle.lk_word.specs.declared.spin_word.NodeName.{NodeName}
 use Rattle.lk_rows.specs.declared.parts.Node.{Node}
 use Rattle.lk_law.specs.Phase.{Phase, queues, leads, has_node}
@@ -12,7 +12,7 @@ use Rattle.lk_law.specs.Cna.{CnaAgrees, FrontAgrees, SecondAgrees, part, front_c
 use Rattle.lk_law.specs.Cna.{named_by}
 use Rattle.lk_law.specs.Stage.Stage.{Rests, Flushing, Promoting}
 use Rattle.lk_law.proofs.common.Cases.{waiter_cases, Apart}
-use Rattle.lk_abs.proofs.ByIndex.{last_cases}
+use Rattle.lk_names.proofs.ByIndex.{last_cases}
 use Rattle.lk_law.proofs.cna.Parts.{part_cases, part_out}
 use Rattle.lk_law.proofs.queue.Arrive.{arrive_first}
 use Rattle.lk_law.proofs.queue.Sole.{queue_sole, sole_empty}

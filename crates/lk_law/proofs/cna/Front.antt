@@ -1,7 +1,7 @@
 -- What the front knows while it chooses the next: whose nodes its registers name.
 use Rattle.std.proofs.Common.{◌≡◌, ℕ, Option, Some, None, Bool, true, false, List, [], ◌∷◌, inl}
 use Rattle.std.proofs.Common.{inr, arith, ap, refl, sym, ◌∙◌, subst, slice_get}
-use Rattle.lk_abs.specs.declared.names.Waiter.{Waiter}
+use Rattle.lk_names.specs.declared.names.Waiter.{Waiter}
 use Rattle.lk_word.specs.declared.spin_word.NodeName.{NodeName}
 use Rattle.lk_rows.specs.declared.parts.Node.{Node}
 use Rattle.lk_law.specs.Phase.{Phase, has_node}
@@ -10,7 +10,7 @@ use Rattle.lk_law.specs.Snapshot.{QueueAgrees}
 use Rattle.lk_law.specs.Stage.{Stage, cut_of, tip_of, passed_over, chosen, tail_seen, tied, hangs}
 use Rattle.lk_law.specs.Cna.{CnaAgrees, FrontAgrees, SecondAgrees, part, shown, front_cut}
 use Rattle.lk_law.specs.Cna.{front_tip, named_by, first_node}
-use Rattle.lk_abs.proofs.ByIndex.{last_cases}
+use Rattle.lk_names.proofs.ByIndex.{last_cases}
 use Rattle.lk_law.proofs.common.Families.{Last}
 
 module _ {tail : Option NodeName} {phase : Waiter → Phase} {own : Waiter → NodeName}

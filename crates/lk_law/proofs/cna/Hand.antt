@@ -4,7 +4,7 @@ use Rattle.std.proofs.Common.{◌≤◌, ◌+◌, slice_get, drop, take, replica
 use Rattle.std.specs.Prelude.{map, if◌then◌else◌}
 use Rattle.std.proofs.lemmas.Bool.{cases_eq}
 use Rattle.std.proofs.lemmas.List.{length-replicate}
-use Rattle.lk_abs.specs.declared.names.Waiter.{Waiter}
+use Rattle.lk_names.specs.declared.names.Waiter.{Waiter}
 use Rattle.lk_word.specs.declared.spin_word.NodeName.{NodeName}
 use Rattle.lk_rows.specs.declared.parts.Node.{Node}
 use Rattle.lk_law.specs.Phase.{Phase}
@@ -16,7 +16,7 @@ use Rattle.lk_law.specs.Cna.{front_tip, node_in, named_by, same_none, first_node
 use Rattle.lk_rows.specs.rows.Cna.{flag_for}
 use Rattle.lk_law.specs.Stage.Stage.{Rests}
 use Rattle.lk_law.proofs.common.Cases.{waiter_cases}
-use Rattle.lk_abs.proofs.ByIndex.{get_cases, get-drop_one, get_within, get_past}
+use Rattle.lk_names.proofs.ByIndex.{get_cases, get-drop_one, get_within, get_past}
 use Rattle.lk_law.proofs.cna.Joined.{get-drop, get-take_none, get_below, get-join, get-join_left}
 use Rattle.lk_law.proofs.cna.Joined.{get-join_last}
 use Rattle.lk_law.proofs.cna.Parts.{not_in}

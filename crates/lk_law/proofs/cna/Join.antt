@@ -1,7 +1,7 @@
 use Rattle.std.proofs.Common.{◌≡◌, ◌≢◌, ℕ, suc, Option, Some, None, Bool, true, List, []}
 use Rattle.std.proofs.Common.{◌∷◌, ◌++◌, inl, inr, arith, ap, refl, sym, ◌∙◌, subst, slice_get}
 use Rattle.std.proofs.Common.{drop, take, length, ◌+◌}
-use Rattle.lk_abs.specs.declared.names.Waiter.{Waiter}
+use Rattle.lk_names.specs.declared.names.Waiter.{Waiter}
 use Rattle.lk_word.specs.declared.spin_word.NodeName.{NodeName}
 use Rattle.lk_rows.specs.declared.parts.Node.{Node}
 use Rattle.lk_law.specs.Phase.{Phase, queues, has_node}
@@ -13,7 +13,7 @@ use Rattle.lk_law.specs.Cna.{CnaAgrees, FrontAgrees, SecondAgrees, part, shown, 
 use Rattle.lk_law.specs.Cna.{front_tip, named_by, first_node}
 use Rattle.lk_law.specs.Stage.Stage.{Picks}
 use Rattle.lk_law.proofs.common.Cases.{node_cases}
-use Rattle.lk_abs.proofs.ByIndex.{last_cases, get-drop_one}
+use Rattle.lk_names.proofs.ByIndex.{last_cases, get-drop_one}
 use Rattle.lk_law.proofs.cna.Joined.{get-join_left, get-join_right, nonempty}
 use Rattle.lk_law.proofs.cna.Parts.{part_cases, part_in, part_out, not_in, outside_part, shown_at}
 use Rattle.lk_law.proofs.cna.Parts.{shown_else}

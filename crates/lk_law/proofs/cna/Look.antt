@@ -2,7 +2,7 @@
 -- that stores nothing.
 use Rattle.std.proofs.Common.{◌≡◌, ◌≢◌, ℕ, suc, Option, Some, None, Bool, true, false, List, []}
 use Rattle.std.proofs.Common.{◌∷◌, ◌⊎◌, inl, inr, arith, ap, refl, sym, ◌∙◌, subst, ◌<◌, slice_get}
-use Rattle.lk_abs.specs.declared.names.Waiter.{Waiter}
+use Rattle.lk_names.specs.declared.names.Waiter.{Waiter}
 use Rattle.lk_word.specs.declared.spin_word.NodeName.{NodeName}
 use Rattle.lk_rows.specs.declared.parts.Node.{Node}
 use Rattle.lk_rows.specs.Machine.{rest_node}
@@ -14,7 +14,7 @@ use Rattle.lk_law.specs.Cna.{CnaAgrees, FrontAgrees, SecondAgrees, part, shown, 
 use Rattle.lk_law.specs.Cna.{front_tip, named_by, first_node}
 use Rattle.lk_law.specs.Stage.Stage.{Picks}
 use Rattle.lk_law.proofs.common.Cases.{node_cases}
-use Rattle.lk_abs.proofs.ByIndex.{get_cases}
+use Rattle.lk_names.proofs.ByIndex.{get_cases}
 use Rattle.lk_law.proofs.cna.Front.{front_lead, front_queue, front_second}
 use Rattle.lk_law.proofs.cna.Parts.{part_out, shown_at, shown_else, shown_flag}
 use Rattle.lk_law.proofs.queue.Lead.{follows_cases}

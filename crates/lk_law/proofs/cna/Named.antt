@@ -3,10 +3,10 @@ use Rattle.std.proofs.Common.{◌≡◌, ℕ, Option, Some, None, Bool, true, fa
 use Rattle.std.proofs.Common.{ap, refl, sym, ◌∙◌, subst, arith, slice_get}
 use Rattle.std.proofs.lemmas.Bool.{cases_Bool}
 use Rattle.std.specs.Prelude.{◌==◌, is_some, if◌then◌else◌}
-use Rattle.lk_abs.specs.Names.{same_lock}
-use Rattle.lk_abs.specs.History.{LockHistory}
-use Rattle.lk_abs.specs.declared.names.LockName.{LockName}
-use Rattle.lk_abs.specs.declared.names.Waiter.{Waiter}
+use Rattle.lk_names.specs.Names.{same_lock}
+use Rattle.lk_names.specs.History.{LockHistory}
+use Rattle.lk_names.specs.declared.names.LockName.{LockName}
+use Rattle.lk_names.specs.declared.names.Waiter.{Waiter}
 use Rattle.lk_word.specs.declared.spin_word.NodeName.{NodeName}
 use Rattle.lk_rows.specs.declared.parts.Flag.TheVariants.{Unset, Second}
 use Rattle.lk_rows.specs.declared.parts.Frame.{Frame}
@@ -33,7 +33,7 @@ use Rattle.lk_law.proofs.cna.Knows.{lists, at_front, phase_here, stage_here}
 use Rattle.lk_law.proofs.cna.Look.{look-next, look-b}
 use Rattle.lk_law.proofs.cna.Parts.{shown_flag}
 use Rattle.lk_law.proofs.common.Families.{Last, lists_front}
-use Rattle.lk_abs.proofs.ByIndex.{last_cases}
+use Rattle.lk_names.proofs.ByIndex.{last_cases}
 use Rattle.lk_law.proofs.common.Puts.{if-true, if-false, not-true}
 use Rattle.lk_law.proofs.common.Users.{user_of, own_node, node_is_ones, some_is}
 use Rattle.lk_law.proofs.common.Worlds.{phase_on-here}

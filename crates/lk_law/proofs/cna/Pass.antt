@@ -2,7 +2,7 @@ use Rattle.std.proofs.Common.{◌≡◌, ◌≢◌, ℕ, zero, suc, Option, Some
 use Rattle.std.proofs.Common.{None}
 use Rattle.std.proofs.Common.{◌∷◌, ◌++◌, ◌⊎◌, inl, inr, arith, ap, refl, sym, ◌∙◌, subst, ◌<◌, ◌≤◌}
 use Rattle.std.proofs.Common.{◌+◌, slice_get, drop, take}
-use Rattle.lk_abs.specs.declared.names.Waiter.{Waiter}
+use Rattle.lk_names.specs.declared.names.Waiter.{Waiter}
 use Rattle.lk_word.specs.declared.spin_word.NodeName.{NodeName}
 use Rattle.lk_rows.specs.declared.parts.Node.{Node}
 use Rattle.lk_law.specs.Phase.{Phase, queues, leads, has_node}
@@ -12,7 +12,7 @@ use Rattle.lk_law.specs.Phase.Phase.{Prepared, Waits, Aside}
 use Rattle.lk_law.specs.Stage.{Stage}
 use Rattle.lk_law.specs.Cna.{is_in, part, shown}
 use Rattle.lk_law.proofs.common.Cases.{waiter_cases, node_cases}
-use Rattle.lk_abs.proofs.ByIndex.{get-drop_one}
+use Rattle.lk_names.proofs.ByIndex.{get-drop_one}
 use Rattle.lk_law.proofs.cna.Joined.{get-take, get-take_in, get_below, get-join, get-join_left}
 use Rattle.lk_law.proofs.cna.Parts.{part_cases, part_in, part_out, not_in, is_in-get, outside_part}
 use Rattle.lk_law.proofs.cna.Parts.{shown_else, shown_flag}

@@ -2,7 +2,7 @@ use Rattle.std.proofs.Common.{◌≡◌, ◌≢◌, ℕ, zero, suc, Option, Some
 use Rattle.std.proofs.Common.{[], ◌∷◌, ◌++◌, ◌⊎◌, inl, inr, arith, ap, refl, sym, ◌∙◌, subst}
 use Rattle.std.proofs.Common.{slice_get}
 use Rattle.std.proofs.lemmas.Bool.{cases_Bool}
-use Rattle.lk_abs.specs.declared.names.Waiter.{Waiter}
+use Rattle.lk_names.specs.declared.names.Waiter.{Waiter}
 use Rattle.lk_word.specs.declared.spin_word.NodeName.{NodeName}
 use Rattle.lk_rows.specs.declared.parts.Node.{Node}
 use Rattle.lk_rows.specs.Machine.{rest_node}
@@ -14,7 +14,7 @@ use Rattle.lk_law.specs.Cna.{CnaAgrees, FrontAgrees, is_in, part, shown, front_c
 use Rattle.lk_law.specs.Cna.{named_by}
 use Rattle.lk_law.specs.Stage.Stage.{Rests, Counts, Picked, Cuts, Hangs, Picks}
 use Rattle.lk_law.proofs.common.Cases.{waiter_cases, node_cases, Apart}
-use Rattle.lk_abs.proofs.ByIndex.{get_cases, get-append_old}
+use Rattle.lk_names.proofs.ByIndex.{get_cases, get-append_old}
 use Rattle.lk_law.proofs.cna.Joined.{get_below}
 use Rattle.lk_law.proofs.cna.Parts.{part_cases, part_out, not_in, outside_part, shown_at}
 use Rattle.lk_law.proofs.cna.Parts.{shown_else, shown_flag, shown_same}

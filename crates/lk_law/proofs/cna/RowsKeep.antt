@@ -4,7 +4,7 @@ use Rattle.std.proofs.Common.{◌≡◌, ◌≢◌, ◌<◌, ◌⊎◌, inl, inr
 use Rattle.std.proofs.Common.{false, ◌∷◌, arith, ap, refl, sym, ◌∙◌, slice_get}
 use Rattle.std.specs.Prelude.{if◌then◌else◌, is_some, ◌+◌}
 use Rattle.std.proofs.lemmas.Bool.{ltb-true}
-use Rattle.lk_abs.specs.declared.names.Waiter.{Waiter}
+use Rattle.lk_names.specs.declared.names.Waiter.{Waiter}
 use Rattle.lk_word.specs.declared.spin_word.NodeName.{NodeName}
 use Rattle.lk_word.specs.declared.spin_word.Fields.{Fields}
 use Rattle.lk_rows.specs.declared.parts.Frame.{Frame}

@@ -1,7 +1,7 @@
 -- What each row of the choice makes of a world.
 use Rattle.std.proofs.Common.{Option, Some, None, refl, [], ◌∷◌}
 use Rattle.std.specs.Prelude.{◌+◌, is_some, if◌then◌else◌}
-use Rattle.lk_abs.specs.declared.names.LockName.{LockName}
+use Rattle.lk_names.specs.declared.names.LockName.{LockName}
 use Rattle.lk_word.specs.declared.spin_word.NodeName.{NodeName}
 use Rattle.lk_word.specs.declared.spin_word.Fields.{Fields}
 use Rattle.lk_rows.specs.declared.parts.Frame.{Frame}

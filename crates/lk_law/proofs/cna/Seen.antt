@@ -1,8 +1,8 @@
 -- Which node a front sees as local.
 use Rattle.std.proofs.Common.{◌≡◌, Bool}
 use Rattle.std.proofs.Common.{ap, sym, ◌∙◌, subst}
-use Rattle.lk_abs.specs.Lawful.{is_local}
-use Rattle.lk_abs.specs.declared.names.Waiter.{Waiter}
+use Rattle.lk_names.specs.Lawful.{is_local}
+use Rattle.lk_names.specs.declared.names.Waiter.{Waiter}
 use Rattle.lk_word.specs.declared.spin_word.NodeName.{NodeName}
 use Rattle.lk_rows.specs.declared.parts.Pc.{Pc}
 use Rattle.lk_law.specs.Phase.{has_node}

@@ -1,7 +1,7 @@
 use Rattle.std.proofs.Common.{◌≡◌, ◌≢◌, ℕ, suc, Option, Some, None, Bool, true, false, List, []}
 use Rattle.std.proofs.Common.{◌∷◌, inl, inr, arith, ap, refl, sym, ◌∙◌, subst, ◌+◌, slice_get}
 use Rattle.std.specs.Prelude.{if◌then◌else◌}
-use Rattle.lk_abs.specs.declared.names.Waiter.{Waiter}
+use Rattle.lk_names.specs.declared.names.Waiter.{Waiter}
 use Rattle.lk_word.specs.declared.spin_word.NodeName.{NodeName}
 use Rattle.lk_rows.specs.declared.parts.Node.{Node}
 use Rattle.lk_law.specs.Phase.{Phase, queues, has_node}
@@ -12,7 +12,7 @@ use Rattle.lk_law.specs.Cna.{CnaAgrees, FrontAgrees, SecondAgrees, is_in, part, 
 use Rattle.lk_law.specs.Cna.{first_node}
 use Rattle.lk_law.specs.Stage.Stage.{Counts, Picked, Tips, Ties, Cuts, Hangs, Picks}
 use Rattle.lk_law.proofs.common.Cases.{node_cases, Apart}
-use Rattle.lk_abs.proofs.ByIndex.{last_cases}
+use Rattle.lk_names.proofs.ByIndex.{last_cases}
 use Rattle.lk_law.proofs.cna.Parts.{part_cases, part_out, not_in, shown_at, shown_else, shown_flag}
 use Rattle.lk_law.proofs.cna.Parts.{shown_same}
 use Rattle.lk_law.proofs.cna.Look.{queue_same, stage_turn}

@@ -2,7 +2,7 @@ use Rattle.std.proofs.Common.{◌≡◌, ◌≢◌, ℕ, suc, Option, Some, None
 use Rattle.std.proofs.Common.{◌∷◌, ◌++◌, inl, inr, arith, ap, refl, sym, ◌∙◌, subst, ◌<◌, slice_get}
 use Rattle.std.proofs.Common.{drop, take, replicate}
 use Rattle.std.specs.Prelude.{map}
-use Rattle.lk_abs.specs.declared.names.Waiter.{Waiter}
+use Rattle.lk_names.specs.declared.names.Waiter.{Waiter}
 use Rattle.lk_word.specs.declared.spin_word.NodeName.{NodeName}
 use Rattle.lk_rows.specs.declared.parts.Node.{Node}
 use Rattle.lk_law.specs.Phase.{Phase, queues, has_node}
@@ -14,7 +14,7 @@ use Rattle.lk_law.specs.Stage.{hangs}
 use Rattle.lk_law.specs.Cna.{CnaAgrees, FrontAgrees, SecondAgrees, is_in, part, shown, front_cut}
 use Rattle.lk_law.specs.Cna.{front_tip, named_by, first_node}
 use Rattle.lk_law.specs.Stage.Stage.{Counts, Picked}
-use Rattle.lk_abs.proofs.ByIndex.{get-drop_one, last_cases}
+use Rattle.lk_names.proofs.ByIndex.{get-drop_one, last_cases}
 use Rattle.lk_law.proofs.cna.Joined.{get-take_none, get_below}
 use Rattle.lk_law.proofs.cna.Parts.{part_out, not_in, shown_else, shown_flag}
 use Rattle.lk_law.proofs.cna.SecondJoin.{second_join, IsAppended}

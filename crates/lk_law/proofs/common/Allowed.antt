@@ -1,16 +1,16 @@
 -- Each event that a row tells is allowed on the histories before it.
 use Rattle.std.proofs.Common.{◌≡◌, Option, Some, None, true, false, List, arith, ap, refl, sym, ◌∙◌}
 use Rattle.std.proofs.Common.{subst, slice_get}
-use Rattle.lk_abs.specs.History.{LockHistory, taken, with_holder, lock_of}
-use Rattle.lk_abs.specs.declared.holder.Manner.TheVariants.{Spins}
-use Rattle.lk_abs.specs.declared.holder.Holder.{Holder}
-use Rattle.lk_abs.specs.Lawful.{Rules, IsShared, Holds, IsOutside, IsFront, TakesInOrder}
-use Rattle.lk_abs.specs.declared.names.Waiter.{Waiter}
-use Rattle.lk_abs.specs.declared.names.LockName.{LockName}
-use Rattle.lk_abs.specs.declared.events.Event.{Event}
-use Rattle.lk_abs.specs.declared.events.How.{How}
-use Rattle.lk_abs.specs.declared.events.How.TheVariants.{Pending, Head, Sole}
-use Rattle.lk_abs.specs.declared.events.What.TheVariants.{Take, Miss, Release, Arrive, Pass}
+use Rattle.lk_names.specs.History.{LockHistory, taken, with_holder, lock_of}
+use Rattle.lk_names.specs.declared.holder.Manner.TheVariants.{Spins}
+use Rattle.lk_names.specs.declared.holder.Holder.{Holder}
+use Rattle.lk_names.specs.Lawful.{Rules, IsShared, Holds, IsOutside, IsFront, TakesInOrder}
+use Rattle.lk_names.specs.declared.names.Waiter.{Waiter}
+use Rattle.lk_names.specs.declared.names.LockName.{LockName}
+use Rattle.lk_names.specs.declared.events.Event.{Event}
+use Rattle.lk_names.specs.declared.events.How.{How}
+use Rattle.lk_names.specs.declared.events.How.TheVariants.{Pending, Head, Sole}
+use Rattle.lk_names.specs.declared.events.What.TheVariants.{Take, Miss, Release, Arrive, Pass}
 use Rattle.lk_word.specs.declared.spin_word.NodeName.{NodeName}
 use Rattle.lk_word.specs.declared.spin_word.Locked.TheVariants.{Free}
 use Rattle.lk_law.specs.Phase.{has_node, queues, leads}

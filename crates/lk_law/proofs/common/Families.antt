@@ -4,7 +4,7 @@
 use Rattle.std.proofs.Common.{◌≡◌, ◌≢◌, ℕ, zero, suc, Option, Some, None, Bool, true, List, [], ◌∷◌}
 use Rattle.std.proofs.Common.{◌++◌, inl, inr, arith, ap, sym, ◌∙◌, subst, slice_get, drop}
 use Rattle.std.proofs.lemmas.Bool.{cases_Bool}
-use Rattle.lk_abs.specs.declared.names.Waiter.{Waiter}
+use Rattle.lk_names.specs.declared.names.Waiter.{Waiter}
 use Rattle.lk_word.specs.declared.spin_word.NodeName.{NodeName}
 use Rattle.lk_rows.specs.declared.parts.Node.{Node}
 use Rattle.lk_rows.specs.Machine.{rest_node}
@@ -15,7 +15,7 @@ use Rattle.lk_law.specs.Stage.Stage.{Rests}
 use Rattle.lk_law.specs.Snapshot.{Moves, Rewrites, QueueAgrees}
 use Rattle.lk_law.specs.Cna.{ListsAgree, FlatAgrees, CnaAgrees, part, shown, front_cut, named_by}
 use Rattle.lk_law.proofs.common.Cases.{waiter_cases, Apart}
-use Rattle.lk_abs.proofs.ByIndex.{get_cases, get-none_up, last_cases}
+use Rattle.lk_names.proofs.ByIndex.{get_cases, get-none_up, last_cases}
 use Rattle.lk_law.proofs.cna.Parts.{part_cases, part_out, outside_part, shown_flag}
 use Rattle.lk_law.proofs.queue.Keep.{queue_keep}
 use Rattle.lk_law.proofs.queue.Arrive.{arrive_first, arrive_behind, no_queue}

@@ -7,9 +7,9 @@ use Rattle.lk_law.proofs.pv.Keep.{pv_keep, agrees-noded}
 use Rattle.std.proofs.Common.{◌≡◌, ◌≢◌, ℕ, Option, Bool, true, false, inl, inr, arith, ap, ◌<◌}
 use Rattle.std.proofs.Common.{refl, sym, ◌∙◌, subst, slice_get}
 use Rattle.std.proofs.lemmas.Bool.{cases_eq}
-use Rattle.lk_abs.specs.History.{LockHistory}
-use Rattle.lk_abs.specs.declared.names.Waiter.{Waiter}
-use Rattle.lk_abs.specs.declared.names.LockName.{LockName}
+use Rattle.lk_names.specs.History.{LockHistory}
+use Rattle.lk_names.specs.declared.names.Waiter.{Waiter}
+use Rattle.lk_names.specs.declared.names.LockName.{LockName}
 use Rattle.lk_word.specs.declared.spin_word.Fields.{Fields}
 use Rattle.lk_law.specs.Phase.{Phase, has_node, queues}
 use Rattle.lk_law.specs.Phase.Phase.{Idle, Prepared}

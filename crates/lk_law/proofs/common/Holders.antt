@@ -3,12 +3,12 @@ use Rattle.std.specs.Prelude.{Contains}
 use Rattle.std.proofs.Common.{◌≡◌, ◌≢◌, ℕ, zero, suc, Option, Some, None, List, length, slice_get}
 use Rattle.std.proofs.Common.{inl, inr, arith, ap, refl, sym, ◌∙◌, subst}
 use Rattle.std.proofs.lemmas.Option.{slice_get_read}
-use Rattle.lk_abs.specs.History.{LockHistory}
-use Rattle.lk_abs.specs.declared.holder.Manner.{Manner}
-use Rattle.lk_abs.specs.declared.holder.Manner.TheVariants.{Spins}
-use Rattle.lk_abs.specs.declared.holder.Holder.{Holder}
-use Rattle.lk_abs.specs.Lawful.{IsShared, HoldsSo, Holds, IsOutside}
-use Rattle.lk_abs.specs.declared.names.Waiter.{Waiter}
+use Rattle.lk_names.specs.History.{LockHistory}
+use Rattle.lk_names.specs.declared.holder.Manner.{Manner}
+use Rattle.lk_names.specs.declared.holder.Manner.TheVariants.{Spins}
+use Rattle.lk_names.specs.declared.holder.Holder.{Holder}
+use Rattle.lk_names.specs.Lawful.{IsShared, HoldsSo, Holds, IsOutside}
+use Rattle.lk_names.specs.declared.names.Waiter.{Waiter}
 use Rattle.lk_law.specs.Agree.{sole}
 
 -- an element of a list stands at a place of it

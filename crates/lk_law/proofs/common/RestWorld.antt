@@ -1,12 +1,12 @@
 -- A world in which nobody is there is sound in each family, with no history: so the laws speak of
 -- something.
 use Rattle.std.proofs.Common.{◌≡◌, ℕ, None, false, List, [], arith, refl, sym, subst}
-use Rattle.lk_abs.specs.History.{LockHistory, no_history}
-use Rattle.lk_abs.specs.declared.names.Format.{Format}
-use Rattle.lk_abs.specs.declared.names.Kind.{Kind}
-use Rattle.lk_abs.specs.declared.names.LockName.{LockName}
-use Rattle.lk_abs.specs.declared.names.Mode.{Mode}
-use Rattle.lk_abs.specs.declared.names.Waiter.{Waiter}
+use Rattle.lk_names.specs.History.{LockHistory, no_history}
+use Rattle.lk_names.specs.declared.names.Format.{Format}
+use Rattle.lk_names.specs.declared.names.Kind.{Kind}
+use Rattle.lk_names.specs.declared.names.LockName.{LockName}
+use Rattle.lk_names.specs.declared.names.Mode.{Mode}
+use Rattle.lk_names.specs.declared.names.Waiter.{Waiter}
 use Rattle.lk_word.specs.declared.spin_word.NodeName.{NodeName}
 use Rattle.lk_rows.specs.Machine.{rest_node, rest_word}
 use Rattle.lk_rows.specs.declared.parts.Node.{Node}

@@ -1,11 +1,11 @@
 -- What each row of a spinlock makes of a world, where no processor halts and nobody chooses.
 use Rattle.std.proofs.Common.{◌≡◌, ℕ, Option, Some, None, Bool, false, refl}
 use Rattle.std.specs.Prelude.{◌&&◌, not, is_some, if◌then◌else◌}
-use Rattle.lk_abs.specs.declared.names.Mode.{Mode}
-use Rattle.lk_abs.specs.declared.names.Mode.TheVariants.{Virt, Native, Cna, Pv}
-use Rattle.lk_abs.specs.declared.names.Waiter.{Waiter}
-use Rattle.lk_abs.specs.declared.names.LockName.{LockName}
-use Rattle.lk_abs.specs.declared.events.What.TheVariants.{Miss}
+use Rattle.lk_names.specs.declared.names.Mode.{Mode}
+use Rattle.lk_names.specs.declared.names.Mode.TheVariants.{Virt, Native, Cna, Pv}
+use Rattle.lk_names.specs.declared.names.Waiter.{Waiter}
+use Rattle.lk_names.specs.declared.names.LockName.{LockName}
+use Rattle.lk_names.specs.declared.events.What.TheVariants.{Miss}
 use Rattle.lk_word.specs.declared.spin_word.NodeName.{NodeName}
 use Rattle.lk_word.specs.declared.spin_word.Fields.{Fields}
 use Rattle.lk_rows.specs.declared.parts.State.{State}
@@ -33,7 +33,7 @@ use Rattle.lk_law.proofs.rw.Else.{beside_word, beside_flag, beside_next, beside_
 use Rattle.lk_law.proofs.rw.Else.{beside_second, beside_runs, beside_state, beside_entry}
 use Rattle.lk_law.proofs.rw.Else.{beside_halted, beside_kicked, IsIn, SpinLead, TellsOf, SpinMade}
 use Rattle.lk_law.specs.SoundWorld.Part.{Taking}
-use Rattle.lk_abs.specs.declared.events.How.TheVariants as how
+use Rattle.lk_names.specs.declared.events.How.TheVariants as how
 use Rattle.lk_rows.specs.declared.parts.Flag.TheVariants as flag
 
 -- what the rows make

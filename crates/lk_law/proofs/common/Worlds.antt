@@ -4,18 +4,18 @@ use Rattle.lk_law.specs.Pv.{Post, at_halt}
 use Rattle.std.proofs.Common.{◌≡◌, ◌≢◌, ◌⊎◌, ◌<◌, inl, inr, ℕ, Option, None, Some, Bool, true}
 use Rattle.std.proofs.Common.{false, arith, ap, ◌+◌, refl, sym, ◌∙◌, subst}
 use Rattle.std.specs.Prelude.{if◌then◌else◌, is_some}
-use Rattle.lk_abs.specs.Names.{same_lock}
-use Rattle.lk_abs.specs.History.{LockHistory}
-use Rattle.lk_abs.specs.declared.names.Mode.{Mode}
-use Rattle.lk_abs.specs.declared.names.Waiter.{Waiter}
-use Rattle.lk_abs.specs.declared.names.LockName.{LockName}
+use Rattle.lk_names.specs.Names.{same_lock}
+use Rattle.lk_names.specs.History.{LockHistory}
+use Rattle.lk_names.specs.declared.names.Mode.{Mode}
+use Rattle.lk_names.specs.declared.names.Waiter.{Waiter}
+use Rattle.lk_names.specs.declared.names.LockName.{LockName}
 use Rattle.lk_word.specs.declared.spin_word.Fields.{Fields}
 use Rattle.lk_word.specs.declared.spin_word.NodeName.{NodeName}
 use Rattle.lk_rows.specs.declared.parts.Frame.{Frame}
 use Rattle.lk_rows.specs.declared.parts.Pc.{Pc}
 use Rattle.lk_rows.specs.declared.parts.Pc.TheVariants.{C2, C3, C4, C5, C6, C7, C8, C9, C10, W6}
 use Rattle.lk_rows.specs.declared.parts.Pc.TheVariants.{E12}
-use Rattle.lk_abs.specs.Lawful.{is_local}
+use Rattle.lk_names.specs.Lawful.{is_local}
 use Rattle.lk_rows.specs.Moves.{node_of}
 use Rattle.lk_law.specs.Phase.{Phase}
 use Rattle.lk_law.specs.Phase.Phase.{Idle}

@@ -3,12 +3,12 @@ use Rattle.std.proofs.Common.{◌≡◌, ◌≢◌, inl, inr, ℕ, Option, Some,
 use Rattle.std.proofs.Common.{◌++◌, arith, ap, ◌+◌, ◌<◌, refl, sym, ◌∙◌, subst}
 use Rattle.std.specs.Prelude.{◌==◌, if◌then◌else◌}
 use Rattle.std.proofs.lemmas.Bool.{cases_Bool, eqb-true}
-use Rattle.lk_abs.specs.Kicks.{sleeps_after, sleeps_from, owes, kicks, owing, kicks_made}
-use Rattle.lk_abs.specs.Kicks.{kicked_after, is_kicked_from, is_kicked, sleeps}
-use Rattle.lk_abs.specs.declared.names.Waiter.{Waiter}
-use Rattle.lk_abs.specs.declared.names.LockName.{LockName}
-use Rattle.lk_abs.specs.declared.events.Event.{Event}
-use Rattle.lk_abs.specs.declared.events.What.{What}
+use Rattle.lk_names.specs.Kicks.{sleeps_after, sleeps_from, owes, kicks, owing, kicks_made}
+use Rattle.lk_names.specs.Kicks.{kicked_after, is_kicked_from, is_kicked, sleeps}
+use Rattle.lk_names.specs.declared.names.Waiter.{Waiter}
+use Rattle.lk_names.specs.declared.names.LockName.{LockName}
+use Rattle.lk_names.specs.declared.events.Event.{Event}
+use Rattle.lk_names.specs.declared.events.What.{What}
 use Rattle.lk_rows.specs.declared.parts.Frame.{Frame}
 use Rattle.lk_rows.specs.declared.parts.Pc.TheVariants.{U5}
 use Rattle.lk_rows.specs.Row.{Tell, Nothing, Says, Passes}

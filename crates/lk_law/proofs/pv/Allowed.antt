@@ -1,13 +1,13 @@
 -- The events of the paravirtual lock are allowed on the histories before them. A steal is a take
 -- past the queue, and E15 hands on as the other families do.
 use Rattle.std.proofs.Common.{◌≡◌, ℕ, Option, Some, None, true, false, arith, refl}
-use Rattle.lk_abs.specs.Lawful.{Rules}
-use Rattle.lk_abs.specs.History.{LockHistory}
-use Rattle.lk_abs.specs.declared.holder.Manner.TheVariants.{Spins}
-use Rattle.lk_abs.specs.declared.names.Waiter.{Waiter}
-use Rattle.lk_abs.specs.declared.names.LockName.{LockName}
-use Rattle.lk_abs.specs.declared.events.How.TheVariants.{Head, Steal}
-use Rattle.lk_abs.specs.declared.events.What.TheVariants.{Take, Leave, Release}
+use Rattle.lk_names.specs.Lawful.{Rules}
+use Rattle.lk_names.specs.History.{LockHistory}
+use Rattle.lk_names.specs.declared.holder.Manner.TheVariants.{Spins}
+use Rattle.lk_names.specs.declared.names.Waiter.{Waiter}
+use Rattle.lk_names.specs.declared.names.LockName.{LockName}
+use Rattle.lk_names.specs.declared.events.How.TheVariants.{Head, Steal}
+use Rattle.lk_names.specs.declared.events.What.TheVariants.{Take, Leave, Release}
 use Rattle.lk_word.specs.declared.spin_word.Locked.TheVariants.{Free}
 use Rattle.lk_law.specs.Phase.{queues, leads}
 use Rattle.lk_law.specs.Phase.Phase.{Holds, Releases}

@@ -1,13 +1,13 @@
 -- The laws of the rows of the paravirtual lock in which the phase, the hash or the byte changes.
 use Rattle.std.proofs.Common.{◌≡◌, ◌≢◌, Option, Some, None, Bool, true, false, ◌⊎◌, inl, inr, arith}
 use Rattle.std.proofs.Common.{ap, refl, sym, ◌∙◌, subst, slice_get, drop}
-use Rattle.lk_abs.specs.declared.events.Event.{Event}
-use Rattle.lk_abs.specs.History.{LockHistory, told, with_holder}
-use Rattle.lk_abs.specs.declared.holder.Manner.TheVariants.{Spins as SpinHold}
-use Rattle.lk_abs.specs.declared.names.Waiter.{Waiter}
-use Rattle.lk_abs.specs.declared.names.LockName.{LockName}
-use Rattle.lk_abs.specs.declared.events.How.TheVariants.{Head, Steal}
-use Rattle.lk_abs.specs.declared.events.What.TheVariants.{Take, Release, Pass, Leave}
+use Rattle.lk_names.specs.declared.events.Event.{Event}
+use Rattle.lk_names.specs.History.{LockHistory, told, with_holder}
+use Rattle.lk_names.specs.declared.holder.Manner.TheVariants.{Spins as SpinHold}
+use Rattle.lk_names.specs.declared.names.Waiter.{Waiter}
+use Rattle.lk_names.specs.declared.names.LockName.{LockName}
+use Rattle.lk_names.specs.declared.events.How.TheVariants.{Head, Steal}
+use Rattle.lk_names.specs.declared.events.What.TheVariants.{Take, Release, Pass, Leave}
 use Rattle.lk_word.specs.declared.spin_word.NodeName.{NodeName}
 use Rattle.lk_word.specs.declared.spin_word.Locked.{Locked}
 use Rattle.lk_word.specs.declared.spin_word.Locked.TheVariants.{Free, Held, Slow}
@@ -30,7 +30,7 @@ use Rattle.lk_law.specs.Snapshot.{Snapshot, Moves, Rewrites}
 use Rattle.lk_law.specs.Agree.{SnapshotAgrees, Step, Stays, LeavesSlowPath, Owed, halts, node_state}
 use Rattle.lk_law.proofs.common.Cases.{waiter_cases, node_cases}
 use Rattle.lk_law.proofs.common.Puts.{put_moves}
-use Rattle.lk_abs.proofs.ByIndex.{get-drop_one}
+use Rattle.lk_names.proofs.ByIndex.{get-drop_one}
 use Rattle.lk_law.proofs.common.Families.{lists_main, lists_rest}
 use Rattle.lk_law.proofs.spin.Laws.{SameNodes, lists_outside}
 use Rattle.lk_law.proofs.queue.Laws.{own_is}

@@ -4,12 +4,12 @@ use Rattle.std.proofs.Common.{◌≡◌, ◌≢◌, Option, Some, None, Bool, tr
 use Rattle.std.proofs.Common.{sym, ◌∙◌, subst}
 use Rattle.std.proofs.lemmas.Bool.{cases_Bool}
 use Rattle.std.specs.Prelude.{is_some}
-use Rattle.lk_abs.specs.Names.{same_lock}
-use Rattle.lk_abs.specs.History.{LockHistory, told}
-use Rattle.lk_abs.specs.Lawful.{Rules}
-use Rattle.lk_abs.specs.declared.names.Waiter.{Waiter}
-use Rattle.lk_abs.specs.declared.names.LockName.{LockName}
-use Rattle.lk_abs.specs.declared.events.What.TheVariants.{Halt, Wake}
+use Rattle.lk_names.specs.Names.{same_lock}
+use Rattle.lk_names.specs.History.{LockHistory, told}
+use Rattle.lk_names.specs.Lawful.{Rules}
+use Rattle.lk_names.specs.declared.names.Waiter.{Waiter}
+use Rattle.lk_names.specs.declared.names.LockName.{LockName}
+use Rattle.lk_names.specs.declared.events.What.TheVariants.{Halt, Wake}
 use Rattle.lk_word.specs.declared.spin_word.NodeName.{NodeName}
 use Rattle.lk_word.specs.declared.spin_word.Locked.{Locked}
 use Rattle.lk_word.specs.declared.spin_word.Locked.TheVariants.{Free, Held, Slow}

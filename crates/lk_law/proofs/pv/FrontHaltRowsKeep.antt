@@ -32,8 +32,8 @@ use Rattle.lk_law.proofs.pv.Find.{law_halt, allow_halt}
 use Rattle.lk_law.proofs.pv.Allowed.{allow_grab}
 use Rattle.lk_law.proofs.pv.WaitRowsKeep.{halt_only}
 use Rattle.lk_law.proofs.pv.FrontTryRowsKeep.{front_leads, slow_is}
-use Rattle.lk_abs.specs.declared.events.How.TheVariants as how
-use Rattle.lk_abs.specs.declared.events.What.TheVariants as what
+use Rattle.lk_names.specs.declared.events.How.TheVariants as how
+use Rattle.lk_names.specs.declared.events.What.TheVariants as what
 
 -- E6
 

@@ -3,8 +3,8 @@
 use Rattle.std.proofs.Common.{◌≡◌, ℕ, Option, Some, None, true, [], ◌∷◌, ap, ◌-◌, refl, sym, ◌∙◌}
 use Rattle.std.proofs.Common.{slice_get}
 use Rattle.std.specs.Prelude.{◌&&◌, not}
-use Rattle.lk_abs.specs.declared.holder.Manner.TheVariants.{Spins}
-use Rattle.lk_abs.specs.declared.names.Waiter.{Waiter}
+use Rattle.lk_names.specs.declared.holder.Manner.TheVariants.{Spins}
+use Rattle.lk_names.specs.declared.names.Waiter.{Waiter}
 use Rattle.lk_word.specs.declared.spin_word.NodeName.{NodeName}
 use Rattle.lk_word.specs.declared.spin_word.Fields.{Fields}
 use Rattle.lk_rows.specs.declared.parts.Frame.{Frame}
@@ -39,7 +39,7 @@ use Rattle.lk_law.proofs.pv.Allowed.{allow_leave}
 use Rattle.lk_law.proofs.common.Allowed.{allow_pass, next_is}
 use Rattle.lk_law.proofs.queue.Sole.{sole_second}
 use Rattle.lk_law.proofs.queue.Laws.{apart_on}
-use Rattle.lk_abs.specs.declared.events.What.TheVariants as what
+use Rattle.lk_names.specs.declared.events.What.TheVariants as what
 use Rattle.lk_rows.specs.declared.parts.Flag.TheVariants as flag
 
 -- E13

@@ -34,8 +34,8 @@ use Rattle.lk_law.proofs.pv.StayLaws.{law_E1, law_E2}
 use Rattle.lk_law.proofs.pv.EndLaws.{law_E3, law_E4_take, law_E5_mark, law_E5_sign}
 use Rattle.lk_law.proofs.pv.Allowed.{allow_grab}
 use Rattle.lk_law.proofs.pv.WaitRowsKeep.{positive}
-use Rattle.lk_abs.specs.declared.events.How.TheVariants as how
-use Rattle.lk_abs.specs.declared.events.What.TheVariants as what
+use Rattle.lk_names.specs.declared.events.How.TheVariants as how
+use Rattle.lk_names.specs.declared.events.What.TheVariants as what
 
 hashed_met : (x : State) → not (is_hashed x) ≡ not_hashed x
 hashed_met Running = refl

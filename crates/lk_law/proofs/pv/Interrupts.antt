@@ -1,8 +1,8 @@
 -- An interrupt as a whole: a halt ends, if there is one, and a frame comes.
 use Rattle.std.proofs.Common.{◌≡◌, ◌≢◌, Some, None, [], ◌∷◌, ◌++◌, arith, ap, ◌+◌, ◌∙◌}
-use Rattle.lk_abs.specs.declared.names.Waiter.{Waiter}
-use Rattle.lk_abs.specs.declared.events.Event.{Event}
-use Rattle.lk_abs.specs.declared.events.What.TheVariants.{Int}
+use Rattle.lk_names.specs.declared.names.Waiter.{Waiter}
+use Rattle.lk_names.specs.declared.events.Event.{Event}
+use Rattle.lk_names.specs.declared.events.What.TheVariants.{Int}
 use Rattle.lk_rows.specs.declared.parts.Frame.{Frame}
 use Rattle.lk_rows.specs.Acts.{after_halt}
 use Rattle.lk_rows.specs.Acts.{stands_halting}

@@ -1,6 +1,6 @@
 -- The posts of a lock, with what a row of the paravirtual lock may rest on.
 use Rattle.std.proofs.Common.{◌≡◌, ◌≢◌, Option, Some, true}
-use Rattle.lk_abs.specs.declared.names.Waiter.{Waiter}
+use Rattle.lk_names.specs.declared.names.Waiter.{Waiter}
 use Rattle.lk_word.specs.declared.spin_word.NodeName.{NodeName}
 use Rattle.lk_word.specs.declared.spin_word.Locked.{Locked}
 use Rattle.lk_word.specs.declared.spin_word.Locked.TheVariants.{Free}

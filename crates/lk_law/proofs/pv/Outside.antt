@@ -2,9 +2,9 @@
 -- the arrival and the link.
 use Rattle.std.proofs.Common.{◌≡◌, ◌≢◌, ℕ, Some, Bool, true, false, List, [], ◌∷◌, ◌++◌, ◌⊎◌, inl}
 use Rattle.std.proofs.Common.{inr, arith, ap, refl, sym, ◌∙◌, subst, slice_get}
-use Rattle.lk_abs.specs.History.{LockHistory}
-use Rattle.lk_abs.specs.declared.names.Waiter.{Waiter}
-use Rattle.lk_abs.specs.declared.names.LockName.{LockName}
+use Rattle.lk_names.specs.History.{LockHistory}
+use Rattle.lk_names.specs.declared.names.Waiter.{Waiter}
+use Rattle.lk_names.specs.declared.names.LockName.{LockName}
 use Rattle.lk_word.specs.declared.spin_word.NodeName.{NodeName}
 use Rattle.lk_word.specs.declared.spin_word.Fields.{Fields}
 use Rattle.lk_word.specs.declared.spin_word.Locked.TheVariants.{Free, Held}
@@ -18,7 +18,7 @@ use Rattle.lk_law.specs.Pv.Post.{Off, Joins, Spins, Rises, Kicks}
 use Rattle.lk_law.specs.Snapshot.{Snapshot, Moves, Rewrites}
 use Rattle.lk_law.specs.Agree.{ParaAgrees, SnapshotAgrees, Step, Stays, Owed, halts, node_state}
 use Rattle.lk_law.proofs.common.Cases.{waiter_cases, lock_cases, node_cases}
-use Rattle.lk_abs.proofs.ByIndex.{get-append_old}
+use Rattle.lk_names.proofs.ByIndex.{get-append_old}
 use Rattle.lk_law.proofs.common.Families.{lists_main, lists_rest}
 use Rattle.lk_law.proofs.pv.Keep.{pv_keep, noded_post, agrees-noded}
 use Rattle.lk_law.proofs.pv.Calls.{pv_byte}

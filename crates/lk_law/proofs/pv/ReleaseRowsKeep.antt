@@ -2,7 +2,7 @@
 use Rattle.std.proofs.Common.{◌≡◌, inl, inr, ℕ, Some, None, true, false, [], ◌∷◌, arith, ap}
 use Rattle.std.proofs.Common.{refl, sym, ◌∙◌}
 use Rattle.std.specs.Prelude.{if◌then◌else◌, ◌==◌}
-use Rattle.lk_abs.specs.declared.names.Waiter.{Waiter}
+use Rattle.lk_names.specs.declared.names.Waiter.{Waiter}
 use Rattle.lk_word.specs.declared.spin_word.NodeName.{NodeName}
 use Rattle.lk_word.specs.declared.spin_word.Locked.TheVariants.{Free}
 use Rattle.lk_rows.specs.declared.parts.Frame.{Frame}
@@ -37,7 +37,7 @@ use Rattle.lk_law.proofs.common.Cases.{waiter_cases}
 use Rattle.lk_law.proofs.common.Worlds.{post_on-kicks}
 use Rattle.lk_law.proofs.pv.HolderRowsKeep.{held_is, law_kicks}
 use Rattle.lk_law.proofs.common.Puts.{kept_true}
-use Rattle.lk_abs.specs.declared.events.What.TheVariants as what
+use Rattle.lk_names.specs.declared.events.What.TheVariants as what
 
 -- U2
 

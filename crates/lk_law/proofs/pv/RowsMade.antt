@@ -1,7 +1,7 @@
 -- What each row of the paravirtual lock makes of a world.
 use Rattle.std.proofs.Common.{ℕ, Option, Some, None, refl}
 use Rattle.std.specs.Prelude.{◌&&◌, not, is_some, if◌then◌else◌, ◌-◌, ◌==◌}
-use Rattle.lk_abs.specs.declared.names.LockName.{LockName}
+use Rattle.lk_names.specs.declared.names.LockName.{LockName}
 use Rattle.lk_word.specs.declared.spin_word.NodeName.{NodeName}
 use Rattle.lk_word.specs.declared.spin_word.Fields.{Fields}
 use Rattle.lk_rows.specs.declared.parts.State.{State}

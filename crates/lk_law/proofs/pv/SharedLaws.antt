@@ -1,12 +1,12 @@
 -- The laws of the rows that the paravirtual lock shares with the other families.
 use Rattle.std.proofs.Common.{◌≡◌, ◌<◌, Some, None, Bool, true, false, ◌⊎◌, inl, inr, arith, ap}
 use Rattle.std.proofs.Common.{refl}
-use Rattle.lk_abs.specs.History.{LockHistory, told, taken, with_holder}
-use Rattle.lk_abs.specs.declared.holder.Manner.TheVariants.{Spins}
-use Rattle.lk_abs.specs.declared.names.Waiter.{Waiter}
-use Rattle.lk_abs.specs.declared.names.LockName.{LockName}
-use Rattle.lk_abs.specs.declared.events.How.{How}
-use Rattle.lk_abs.specs.declared.events.What.TheVariants.{Take, Arrive}
+use Rattle.lk_names.specs.History.{LockHistory, told, taken, with_holder}
+use Rattle.lk_names.specs.declared.holder.Manner.TheVariants.{Spins}
+use Rattle.lk_names.specs.declared.names.Waiter.{Waiter}
+use Rattle.lk_names.specs.declared.names.LockName.{LockName}
+use Rattle.lk_names.specs.declared.events.How.{How}
+use Rattle.lk_names.specs.declared.events.What.TheVariants.{Take, Arrive}
 use Rattle.lk_word.specs.declared.spin_word.NodeName.{NodeName}
 use Rattle.lk_word.specs.declared.spin_word.Fields.{Fields}
 use Rattle.lk_word.specs.declared.spin_word.Locked.TheVariants.{Free, Held}
@@ -18,7 +18,7 @@ use Rattle.lk_law.specs.Pv.{agrees}
 use Rattle.lk_law.specs.Pv.Post.{Off, Joins, Spins as Turns, Rises}
 use Rattle.lk_law.specs.Snapshot.{Snapshot, Rewrites}
 use Rattle.lk_law.specs.Agree.{SnapshotAgrees, Step, Stays, LeavesSlowPath, EntersSlowPath, halts}
-use Rattle.lk_abs.proofs.ByIndex.{last_cases, get_cases}
+use Rattle.lk_names.proofs.ByIndex.{last_cases, get_cases}
 use Rattle.lk_law.proofs.spin.Laws.{SameNodes, IsTurn, law_turn_as, law_take_as}
 use Rattle.lk_law.proofs.queue.EntryLaws.{next_node, enter_used, law_enter_as, law_enter_bare_as}
 use Rattle.lk_law.proofs.queue.Laws.{law_arrive_as, law_link_as}

@@ -3,15 +3,15 @@ use Rattle.std.proofs.Common.{◌≡◌, ◌≢◌, ◌⊎◌, inl, inr, ℕ, Op
 use Rattle.std.proofs.Common.{◌∷◌, arith, ap, ◌+◌, refl, sym, ◌∙◌, subst}
 use Rattle.std.specs.Prelude.{nat_lt, is_some}
 use Rattle.std.proofs.lemmas.Bool.{ltb-true}
-use Rattle.lk_abs.specs.Lawful.{IsOutside, TakesInOrder}
-use Rattle.lk_abs.specs.History.{taken, with_holder}
-use Rattle.lk_abs.specs.declared.holder.Manner.{Manner}
-use Rattle.lk_abs.specs.declared.holder.Manner.TheVariants.{Spins}
-use Rattle.lk_abs.specs.declared.names.Mode.{Mode}
-use Rattle.lk_abs.specs.declared.names.Mode.TheVariants.{Virt, Native, Cna, Pv}
-use Rattle.lk_abs.specs.declared.events.How.{How}
-use Rattle.lk_abs.specs.declared.events.How.TheVariants as how
-use Rattle.lk_abs.specs.declared.events.What.TheVariants.{Take, Miss, Arrive}
+use Rattle.lk_names.specs.Lawful.{IsOutside, TakesInOrder}
+use Rattle.lk_names.specs.History.{taken, with_holder}
+use Rattle.lk_names.specs.declared.holder.Manner.{Manner}
+use Rattle.lk_names.specs.declared.holder.Manner.TheVariants.{Spins}
+use Rattle.lk_names.specs.declared.names.Mode.{Mode}
+use Rattle.lk_names.specs.declared.names.Mode.TheVariants.{Virt, Native, Cna, Pv}
+use Rattle.lk_names.specs.declared.events.How.{How}
+use Rattle.lk_names.specs.declared.events.How.TheVariants as how
+use Rattle.lk_names.specs.declared.events.What.TheVariants.{Take, Miss, Arrive}
 use Rattle.lk_word.specs.declared.spin_word.NodeName.{NodeName}
 use Rattle.lk_word.specs.declared.spin_word.Fields.{Fields}
 use Rattle.lk_rows.specs.declared.parts.Node.{Node}

@@ -1,7 +1,7 @@
 -- The rows of a steal of the paravirtual lock keep every sound world: H1 and H2.
 use Rattle.std.proofs.Common.{◌≡◌, ℕ, Option, Some, None, true, [], ◌∷◌, ap, ◌-◌, refl, sym, ◌∙◌}
 use Rattle.std.specs.Prelude.{if◌then◌else◌, is_some, ◌&&◌, not}
-use Rattle.lk_abs.specs.declared.holder.Manner.TheVariants.{Spins}
+use Rattle.lk_names.specs.declared.holder.Manner.TheVariants.{Spins}
 use Rattle.lk_word.specs.declared.spin_word.NodeName.{NodeName}
 use Rattle.lk_word.specs.declared.spin_word.Locked.TheVariants.{Held}
 use Rattle.lk_rows.specs.declared.parts.Frame.{Frame}
@@ -28,8 +28,8 @@ use Rattle.lk_law.proofs.pv.Acting.{hm_step_as, hm_kept, hm_same, off_turn, off_
 use Rattle.lk_law.proofs.pv.EndLaws.{law_H2}
 use Rattle.lk_law.proofs.pv.Allowed.{allow_steal}
 use Rattle.lk_law.proofs.pv.HolderRowsKeep.{outside_if, seeks_if, way_if}
-use Rattle.lk_abs.specs.declared.events.How.TheVariants as how
-use Rattle.lk_abs.specs.declared.events.What.TheVariants as what
+use Rattle.lk_names.specs.declared.events.How.TheVariants as how
+use Rattle.lk_names.specs.declared.events.What.TheVariants as what
 
 -- H1
 

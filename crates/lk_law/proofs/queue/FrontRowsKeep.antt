@@ -2,11 +2,11 @@
 use Rattle.std.proofs.Common.{◌≡◌, ◌≢◌, inr, Option, Some, None, Bool, true, false, arith}
 use Rattle.std.proofs.Common.{ap, refl, sym, ◌∙◌, slice_get}
 use Rattle.std.specs.Prelude.{if◌then◌else◌, is_some, ◌&&◌, not}
-use Rattle.lk_abs.specs.declared.holder.Manner.TheVariants.{Spins}
-use Rattle.lk_abs.specs.declared.names.Mode.{Mode}
-use Rattle.lk_abs.specs.declared.names.Mode.TheVariants.{Virt, Native, Cna, Pv}
-use Rattle.lk_abs.specs.declared.names.Waiter.{Waiter}
-use Rattle.lk_abs.specs.declared.events.What.TheVariants.{Take}
+use Rattle.lk_names.specs.declared.holder.Manner.TheVariants.{Spins}
+use Rattle.lk_names.specs.declared.names.Mode.{Mode}
+use Rattle.lk_names.specs.declared.names.Mode.TheVariants.{Virt, Native, Cna, Pv}
+use Rattle.lk_names.specs.declared.names.Waiter.{Waiter}
+use Rattle.lk_names.specs.declared.events.What.TheVariants.{Take}
 use Rattle.lk_word.specs.declared.spin_word.NodeName.{NodeName}
 use Rattle.lk_word.specs.declared.spin_word.Locked.{Locked}
 use Rattle.lk_word.specs.declared.spin_word.Locked.TheVariants.{Free, Held, Slow}
@@ -46,7 +46,7 @@ use Rattle.lk_law.proofs.common.Acting.{Ending, ending_step, ending_leaves, ends
 use Rattle.lk_law.proofs.common.Acting.{LeadsTo, placed_kept, look_going, awake_here}
 use Rattle.lk_law.proofs.spin.RowsKeep.{WordKept, unlocked_free}
 use Rattle.lk_law.proofs.queue.ArriveRowsKeep.{alike_self, both-true, none_second, not_true}
-use Rattle.lk_abs.specs.declared.events.How.TheVariants as how
+use Rattle.lk_names.specs.declared.events.How.TheVariants as how
 use Rattle.lk_rows.specs.declared.parts.Flag.TheVariants as flag
 
 -- G7

@@ -1,6 +1,6 @@
 -- The queue, where nothing changes that it reads.
 use Rattle.std.proofs.Common.{◌≡◌, suc, Option, true, List, arith}
-use Rattle.lk_abs.specs.declared.names.Waiter.{Waiter}
+use Rattle.lk_names.specs.declared.names.Waiter.{Waiter}
 use Rattle.lk_word.specs.declared.spin_word.NodeName.{NodeName}
 use Rattle.lk_rows.specs.declared.parts.Node.{Node}
 use Rattle.lk_law.specs.Phase.{Phase, queues}

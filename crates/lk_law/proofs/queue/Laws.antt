@@ -2,12 +2,12 @@
 -- hands the lead on.
 use Rattle.std.proofs.Common.{◌≡◌, ◌≢◌, ℕ, Option, Some, None, Bool, true, false, List, ◌⊎◌, inl}
 use Rattle.std.proofs.Common.{inr, arith, ap, refl, sym, ◌∙◌, [], ◌∷◌, ◌++◌}
-use Rattle.lk_abs.specs.History.{LockHistory, told}
-use Rattle.lk_abs.specs.declared.names.Waiter.{Waiter}
-use Rattle.lk_abs.specs.declared.names.LockName.{LockName}
-use Rattle.lk_abs.specs.declared.events.Event.{Event}
-use Rattle.lk_abs.specs.declared.events.How.TheVariants.{Head, Sole}
-use Rattle.lk_abs.specs.declared.events.What.TheVariants.{Take, Arrive, Pass}
+use Rattle.lk_names.specs.History.{LockHistory, told}
+use Rattle.lk_names.specs.declared.names.Waiter.{Waiter}
+use Rattle.lk_names.specs.declared.names.LockName.{LockName}
+use Rattle.lk_names.specs.declared.events.Event.{Event}
+use Rattle.lk_names.specs.declared.events.How.TheVariants.{Head, Sole}
+use Rattle.lk_names.specs.declared.events.What.TheVariants.{Take, Arrive, Pass}
 use Rattle.lk_word.specs.declared.spin_word.NodeName.{NodeName}
 use Rattle.lk_word.specs.declared.spin_word.Fields.{Fields}
 use Rattle.lk_word.specs.declared.spin_word.Locked.{Locked}

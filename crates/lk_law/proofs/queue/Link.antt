@@ -1,7 +1,7 @@
 -- The queue, where a waiter links its node behind the one that it met.
 use Rattle.std.proofs.Common.{◌≡◌, ◌≢◌, ℕ, suc, Option, Some, None, true, List, inl, inr, arith}
 use Rattle.std.proofs.Common.{slice_get}
-use Rattle.lk_abs.specs.declared.names.Waiter.{Waiter}
+use Rattle.lk_names.specs.declared.names.Waiter.{Waiter}
 use Rattle.lk_word.specs.declared.spin_word.NodeName.{NodeName}
 use Rattle.lk_rows.specs.declared.parts.Node.{Node}
 use Rattle.lk_rows.specs.declared.parts.Flag.TheVariants.{Unset}

@@ -7,14 +7,14 @@ use Rattle.lk_law.proofs.cna.Parts.{part_cases, shown_flag}
 use Rattle.lk_law.proofs.common.Families.{lists_front}
 use Rattle.std.proofs.Common.{◌≡◌, ℕ, zero, suc, Option, Some, None, true, List, [], ◌∷◌, length}
 use Rattle.std.proofs.Common.{inl, inr, arith, ap, slice_get, refl, sym, ◌∙◌, ◌≤◌, map}
-use Rattle.lk_abs.specs.declared.names.Waiter.{Waiter}
+use Rattle.lk_names.specs.declared.names.Waiter.{Waiter}
 use Rattle.lk_word.specs.declared.spin_word.NodeName.{NodeName}
 use Rattle.lk_rows.specs.declared.parts.Node.{Node}
 use Rattle.lk_law.specs.Phase.{Phase, has_node, queues, leads}
 use Rattle.lk_law.specs.Phase.Phase.{Links}
 use Rattle.lk_law.specs.Snapshot.{QueueAgrees}
 use Rattle.lk_law.specs.Walk.{walk, IsBehind, MainIsTheWalk, MainIsTheShownWalk, SecondIsTheWalk}
-use Rattle.lk_abs.proofs.ByIndex.{get_cases, get-none_up}
+use Rattle.lk_names.proofs.ByIndex.{get_cases, get-none_up}
 use Rattle.lk_law.proofs.queue.Lead.{follows_cases, lead_first}
 use Rattle.lk_law.proofs.queue.Laws.{apart_on}
 use Rattle.lk_law.proofs.common.Frame.{queue_node}

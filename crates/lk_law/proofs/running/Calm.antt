@@ -3,8 +3,8 @@ use Rattle.std.proofs.Common.{◌≡◌, ◌≢◌, ◌⊎◌, inl, inr, Option,
 use Rattle.std.proofs.Common.{refl, sym, ap, subst, List, []}
 use Rattle.std.proofs.lemmas.Bool.{cases_Bool}
 use Rattle.std.specs.Prelude.{if◌then◌else◌, is_some, ◌&&◌, not, ◌-◌, ◌==◌}
-use Rattle.lk_abs.specs.declared.names.Mode.{Mode}
-use Rattle.lk_abs.specs.declared.names.Mode.TheVariants.{Virt, Native, Cna, Pv}
+use Rattle.lk_names.specs.declared.names.Mode.{Mode}
+use Rattle.lk_names.specs.declared.names.Mode.TheVariants.{Virt, Native, Cna, Pv}
 use Rattle.lk_word.specs.declared.spin_word.NodeName.{NodeName}
 use Rattle.lk_word.specs.declared.spin_word.Fields.{Fields}
 use Rattle.lk_rows.specs.declared.parts.Flag.{Flag}
@@ -36,7 +36,7 @@ use Rattle.lk_law.specs.Leads.{course_in, is_release, enters, RowIsCalm, NodeCom
 use Rattle.lk_law.specs.Premises.{IsThen}
 use Rattle.lk_law.specs.Steps.{led, sight_in}
 use Rattle.lk_law.specs.World.{World}
-use Rattle.lk_abs.specs.declared.names.Waiter.{Waiter}
+use Rattle.lk_names.specs.declared.names.Waiter.{Waiter}
 
 -- A lead is mild: the frame does not come to a release by it, and gets no node.
 record Mild (f : Frame) (lead : Lead) : Type 0 where

@@ -4,9 +4,9 @@ use Rattle.std.proofs.Common.{◌≡◌, ◌≢◌, ◌⊎◌, ℕ, suc, Option,
 use Rattle.std.proofs.Common.{ap, refl, sym, ◌∙◌, subst, arith, slice_get}
 use Rattle.std.proofs.lemmas.Bool.{cases_Bool}
 use Rattle.std.specs.Prelude.{is_some}
-use Rattle.lk_abs.specs.History.{LockHistory}
-use Rattle.lk_abs.specs.declared.names.LockName.{LockName}
-use Rattle.lk_abs.specs.declared.names.Waiter.{Waiter}
+use Rattle.lk_names.specs.History.{LockHistory}
+use Rattle.lk_names.specs.declared.names.LockName.{LockName}
+use Rattle.lk_names.specs.declared.names.Waiter.{Waiter}
 use Rattle.lk_word.specs.declared.spin_word.NodeName.{NodeName}
 use Rattle.lk_rows.specs.declared.parts.Frame.{Frame}
 use Rattle.lk_rows.specs.declared.parts.Node.{Node}
@@ -36,7 +36,7 @@ use Rattle.lk_law.proofs.cna.Look.{next_at}
 use Rattle.lk_law.proofs.cna.Parts.{part_cases, part_out, shown_else}
 use Rattle.lk_law.proofs.common.Cases.{node_cases}
 use Rattle.lk_law.proofs.common.Families.{Last, lists_rest}
-use Rattle.lk_abs.proofs.ByIndex.{get_cases}
+use Rattle.lk_names.proofs.ByIndex.{get_cases}
 use Rattle.lk_law.proofs.common.Puts.{not-true}
 use Rattle.lk_law.proofs.common.Users.{user_of, own_node, used_noded, used_own}
 use Rattle.lk_law.proofs.common.Worlds.{phase_on-here}

@@ -10,8 +10,8 @@ use Rattle.std.proofs.lemmas.List.Elements.{All-map}
 use Rattle.std.proofs.lemmas.List.Folds.{Any-from_list_any}
 use Rattle.std.proofs.lemmas.Map.Keys.{IsDistinct-from_apart}
 use Rattle.std.proofs.lemmas.Map.Steps.{length-le_from_distinct_below}
-use Rattle.lk_abs.specs.Lists.{waiter_number, IsOneOf}
-use Rattle.lk_abs.specs.declared.names.Waiter.{Waiter}
+use Rattle.lk_names.specs.Lists.{waiter_number, IsOneOf}
+use Rattle.lk_names.specs.declared.names.Waiter.{Waiter}
 use Rattle.lk_rows.specs.declared.parts.Frame.{Frame}
 use Rattle.lk_rows.specs.Moves.{rw_name}
 use Rattle.lk_law.specs.RwPhase.{is_counted}

@@ -2,12 +2,12 @@
 -- reader-writer lock.
 use Rattle.std.proofs.Common.{◌≡◌, ◌≢◌, ◌⊎◌, inl, inr, ℕ, ◌+◌, ◌-◌, Option, Some, None, Bool, true}
 use Rattle.std.proofs.Common.{false, List, [], ◌∷◌, ◌++◌, arith, ap, refl, sym, ◌∙◌, subst}
-use Rattle.lk_abs.specs.Names.{same_waiter}
-use Rattle.lk_abs.specs.History.{same_manner, is_hold, without}
-use Rattle.lk_abs.specs.declared.holder.Manner.{Manner}
-use Rattle.lk_abs.specs.declared.holder.Manner.TheVariants.{Spins, Reads, Writes}
-use Rattle.lk_abs.specs.declared.holder.Holder.{Holder}
-use Rattle.lk_abs.specs.declared.names.Waiter.{Waiter}
+use Rattle.lk_names.specs.Names.{same_waiter}
+use Rattle.lk_names.specs.History.{same_manner, is_hold, without}
+use Rattle.lk_names.specs.declared.holder.Manner.{Manner}
+use Rattle.lk_names.specs.declared.holder.Manner.TheVariants.{Spins, Reads, Writes}
+use Rattle.lk_names.specs.declared.holder.Holder.{Holder}
+use Rattle.lk_names.specs.declared.names.Waiter.{Waiter}
 use Rattle.lk_law.specs.RwPhase.{RwPhase, asks, is_inner, rests, announces, is_counted}
 use Rattle.lk_law.specs.RwPhase.RwPhase.{Announces, Unreads, Unwrites}
 use Rattle.lk_law.specs.RwAgree.{IsEach, ReadersAgree, HoldsAgree, WaitingAgrees, RwStep}

@@ -1,9 +1,9 @@
 -- What a sound world says of the word that a row of a reader or a writer meets.
 use Rattle.std.proofs.Common.{◌≡◌, ℕ, ◌<◌, Some, true, false, List, [], ◌∷◌, length, slice_get}
 use Rattle.std.proofs.Common.{arith, ap, refl, ◌∙◌}
-use Rattle.lk_abs.specs.History.{LockHistory}
-use Rattle.lk_abs.specs.declared.names.Waiter.{Waiter}
-use Rattle.lk_abs.specs.declared.names.LockName.{LockName}
+use Rattle.lk_names.specs.History.{LockHistory}
+use Rattle.lk_names.specs.declared.names.Waiter.{Waiter}
+use Rattle.lk_names.specs.declared.names.LockName.{LockName}
 use Rattle.lk_rows.specs.declared.parts.Frame.{Frame}
 use Rattle.lk_rows.specs.declared.parts.Pc.{Pc}
 use Rattle.lk_rows.specs.declared.parts.Pc.TheVariants.{R2, R3, R5, Wr5, Wr6, Y3, Z1, Z2}

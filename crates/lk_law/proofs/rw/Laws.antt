@@ -7,13 +7,13 @@ use Rattle.std.proofs.Common.{true, false, List, [], ◌∷◌, ◌++◌, slice_
 use Rattle.std.proofs.Common.{sym, ◌∙◌}
 use Rattle.std.proofs.lemmas.Option.{slice_get_within, get_or_from_slice_get}
 use Rattle.std.proofs.lemmas.List.Sums.{sum_by-cons}
-use Rattle.lk_abs.specs.Names.{same_waiter}
-use Rattle.lk_abs.specs.History.{LockHistory, with_holder, without_holder}
-use Rattle.lk_abs.specs.declared.holder.Manner.{Manner}
-use Rattle.lk_abs.specs.declared.holder.Manner.TheVariants.{Spins, Reads, Writes}
-use Rattle.lk_abs.specs.declared.holder.Holder.{Holder}
-use Rattle.lk_abs.specs.Lawful.{IsShared, Holds, writes}
-use Rattle.lk_abs.specs.declared.names.Waiter.{Waiter}
+use Rattle.lk_names.specs.Names.{same_waiter}
+use Rattle.lk_names.specs.History.{LockHistory, with_holder, without_holder}
+use Rattle.lk_names.specs.declared.holder.Manner.{Manner}
+use Rattle.lk_names.specs.declared.holder.Manner.TheVariants.{Spins, Reads, Writes}
+use Rattle.lk_names.specs.declared.holder.Holder.{Holder}
+use Rattle.lk_names.specs.Lawful.{IsShared, Holds, writes}
+use Rattle.lk_names.specs.declared.names.Waiter.{Waiter}
 use Rattle.lk_word.specs.declared.rw_word.RwFields.{RwFields}
 use Rattle.lk_law.specs.RwPhase.{RwPhase, asks, rests, announces, is_counted}
 use Rattle.lk_law.specs.RwPhase.RwPhase.{Announces, Unreads, Unwrites}

@@ -2,14 +2,14 @@
 use Rattle.std.specs.Prelude.{◌==◌}
 use Rattle.std.proofs.Common.{◌≡◌, ◌≢◌, ◌⊎◌, inl, inr, ℕ, Option, Some, None, Bool, true, false, []}
 use Rattle.std.proofs.Common.{arith, ap, refl, sym, ◌∙◌}
-use Rattle.lk_abs.specs.History.{LockHistory, told}
-use Rattle.lk_abs.specs.declared.holder.Manner.{Manner}
-use Rattle.lk_abs.specs.declared.holder.Manner.TheVariants.{Spins, Reads, Writes}
-use Rattle.lk_abs.specs.Lawful.{Rules, OwnsUp}
-use Rattle.lk_abs.specs.declared.names.Waiter.{Waiter}
-use Rattle.lk_abs.specs.declared.names.LockName.{LockName}
-use Rattle.lk_abs.specs.declared.events.RwHow.{RwHow}
-use Rattle.lk_abs.specs.declared.events.What.TheVariants.{Miss, RTake, RRelease, WTake, WRelease}
+use Rattle.lk_names.specs.History.{LockHistory, told}
+use Rattle.lk_names.specs.declared.holder.Manner.{Manner}
+use Rattle.lk_names.specs.declared.holder.Manner.TheVariants.{Spins, Reads, Writes}
+use Rattle.lk_names.specs.Lawful.{Rules, OwnsUp}
+use Rattle.lk_names.specs.declared.names.Waiter.{Waiter}
+use Rattle.lk_names.specs.declared.names.LockName.{LockName}
+use Rattle.lk_names.specs.declared.events.RwHow.{RwHow}
+use Rattle.lk_names.specs.declared.events.What.TheVariants.{Miss, RTake, RRelease, WTake, WRelease}
 use Rattle.lk_word.specs.declared.rw_word.RwFields.{RwFields}
 use Rattle.lk_rows.specs.declared.parts.Frame.{Frame}
 use Rattle.lk_rows.specs.declared.parts.Pc.{Pc}
@@ -36,7 +36,7 @@ use Rattle.lk_law.proofs.rw.Laws.{rw_admit, rw_write, rw_announce, rw_claim, rw_
 use Rattle.lk_law.proofs.rw.Kept.{rw_unstored, rw_stored, RwStands, rw_ok, rw_shown, rw_waits_here}
 use Rattle.lk_law.proofs.rw.Goes.{OutcomeKept, RwKept, going_end, going_free, going_to, going_wait}
 use Rattle.lk_law.proofs.rw.Goes.{rw_quiet}
-use Rattle.lk_abs.specs.declared.events.RwHow.TheVariants as how
+use Rattle.lk_names.specs.declared.events.RwHow.TheVariants as how
 use Rattle.lk_law.proofs.rw.Goes.{silent, says}
 
 -- words

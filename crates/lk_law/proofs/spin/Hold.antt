@@ -1,6 +1,6 @@
 -- Who holds the lock, where one waiter goes to another phase.
 use Rattle.std.proofs.Common.{◌≡◌, ◌≢◌, Option, Some, None, Bool, true, false, arith}
-use Rattle.lk_abs.specs.declared.names.Waiter.{Waiter}
+use Rattle.lk_names.specs.declared.names.Waiter.{Waiter}
 use Rattle.lk_word.specs.declared.spin_word.Locked.{Locked}
 use Rattle.lk_word.specs.declared.spin_word.Locked.TheVariants.{Free, Held}
 use Rattle.lk_law.specs.Phase.{Phase, has_lock, seeks}

@@ -1,7 +1,7 @@
 -- Who has set the pending bit and who may take the free lock, where one waiter goes to another
 -- phase.
 use Rattle.std.proofs.Common.{◌≡◌, ◌≢◌, Bool, true, false, arith}
-use Rattle.lk_abs.specs.declared.names.Waiter.{Waiter}
+use Rattle.lk_names.specs.declared.names.Waiter.{Waiter}
 use Rattle.lk_word.specs.declared.spin_word.Locked.{Locked}
 use Rattle.lk_word.specs.declared.spin_word.Locked.TheVariants.{Free}
 use Rattle.lk_law.specs.Phase.{Phase, pends, claims, watches, stakes}

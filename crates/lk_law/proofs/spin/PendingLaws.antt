@@ -1,11 +1,11 @@
 -- The laws of the pending bit: it is set, cleared again, watched, and the lock is taken by it.
 use Rattle.std.proofs.Common.{◌≡◌, ◌≢◌, Some, None, Bool, true, false, inl, inr, arith, refl}
-use Rattle.lk_abs.specs.History.{LockHistory, told}
-use Rattle.lk_abs.specs.declared.names.Waiter.{Waiter}
-use Rattle.lk_abs.specs.declared.names.LockName.{LockName}
-use Rattle.lk_abs.specs.declared.events.Event.{Event}
-use Rattle.lk_abs.specs.declared.events.How.TheVariants.{Pending}
-use Rattle.lk_abs.specs.declared.events.What.TheVariants.{Take}
+use Rattle.lk_names.specs.History.{LockHistory, told}
+use Rattle.lk_names.specs.declared.names.Waiter.{Waiter}
+use Rattle.lk_names.specs.declared.names.LockName.{LockName}
+use Rattle.lk_names.specs.declared.events.Event.{Event}
+use Rattle.lk_names.specs.declared.events.How.TheVariants.{Pending}
+use Rattle.lk_names.specs.declared.events.What.TheVariants.{Take}
 use Rattle.lk_word.specs.declared.spin_word.Locked.{Locked}
 use Rattle.lk_word.specs.declared.spin_word.Locked.TheVariants.{Free, Held}
 use Rattle.lk_law.specs.Phase.{Phase, has_node, has_lock, pends, claims, watches, stakes, queues}

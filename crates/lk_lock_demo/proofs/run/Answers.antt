@@ -1,5 +1,5 @@
 use Rattle.std.proofs.Common.{arith}
-use Rattle.lk_abs.specs.declared.names.Kind.TheVariants.{Spin}
+use Rattle.lk_names.specs.declared.names.Kind.TheVariants.{Spin}
 use Rattle.lk_lock_demo.proofs.run.Goals as goal
 
 pub into_value-numbers-requires : goal.into_value-numbers-requires

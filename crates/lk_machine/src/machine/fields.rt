@@ -7,7 +7,7 @@ ghost use Rattle.lk_rows.specs.Machine.{HasNode, node_at, rest_node, set_node, s
 
 use crate::machine::Machine;
 use crate::machine::rest::rest_node;
-use lk_abs::LockName;
+use lk_names::LockName;
 use lk_rows::{Flag, Node, State};
 use lk_word::{Fields, Locked, NodeName};
 

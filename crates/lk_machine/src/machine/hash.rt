@@ -9,7 +9,7 @@ ghost use Rattle.lk_machine.specs.Hashed.{node_number, node_named};
 ghost use Rattle.lk_rows.specs.Layouts.{layout_of};
 
 use crate::machine::Machine;
-use lk_abs::LockName;
+use lk_names::LockName;
 use lk_word::NodeName;
 
 // The number under which the hash has a lock.

@@ -10,7 +10,7 @@ ghost use Rattle.lk_rows.specs.Acts.{handler_frame};
 
 use crate::machine::Machine;
 use crate::machine::rest::rest_frame;
-use lk_abs::{Event, List, LockName, Mode, What};
+use lk_names::{Event, List, LockName, Mode, What};
 use lk_rows::{Flag, Frame, Op, Pc, Verb, named};
 use lk_word::NodeName;
 

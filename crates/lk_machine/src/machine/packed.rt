@@ -6,7 +6,7 @@ ghost use Rattle.lk_word.specs.RwWord.{IsPackableRw};
 ghost use Rattle.lk_machine.specs.Packed.{fields_in, rw_fields_in, IsPacked, IsPackedRw};
 ghost use Rattle.lk_rows.specs.Layouts.{layout_of};
 
-use lk_abs::Format;
+use lk_names::Format;
 use lk_word::{Fields, Layout, RwFields, pack, pack_rw, unpack, unpack_rw};
 
 // The layout of the words of a format.

@@ -7,7 +7,7 @@ ghost use Rattle.lk_machine.specs.Parts.{is_over, row_of};
 use crate::machine::number::{feed_frame, feed_node};
 use crate::machine::same::{same_frames, same_nodes};
 use crate::machine::{CpuState, MAX_FRAMES, Machine};
-use lk_abs::Memory;
+use lk_names::Memory;
 use lk_rows::{Frame, Pc};
 use std::alloc::Global;
 use std::hash::{FoldHasher, Hasher};

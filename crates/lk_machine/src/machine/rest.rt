@@ -9,8 +9,8 @@ use crate::machine::moves::started;
 use crate::machine::packed::layout_of;
 use crate::machine::words::Words;
 use crate::machine::{CpuState, MAX_FRAMES, MAX_NODES, Machine};
-use lk_abs::{List, LockName, Memory, Mode};
 use lk_hash::LockHash;
+use lk_names::{List, LockName, Memory, Mode};
 use lk_rows::{Counts, Flag, Frame, Node, Op, Setup, State, Why};
 use std::alloc::Global;
 

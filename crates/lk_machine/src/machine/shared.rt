@@ -7,8 +7,8 @@ ghost use Rattle.lk_machine.specs.Parts.{Fits, Holds, SharedValue};
 
 use crate::machine::Machine;
 use crate::machine::words::Words;
-use lk_abs::Memory;
 use lk_hash::LockHash;
+use lk_names::Memory;
 use std::alloc::Global;
 use std::hash::{FoldHasher, Hasher};
 use std::marker::Model;

@@ -6,7 +6,7 @@ ghost use Rattle.lk_machine.specs.Ready.{IsReady};
 ghost use Rattle.lk_word.specs.RwWord.{IsPackableRw};
 
 use crate::machine::Machine;
-use lk_abs::{Event, LockName, Waiter, What};
+use lk_names::{Event, LockName, Waiter, What};
 use lk_rows::{Frame, Pc};
 use lk_word::{Fields, RwFields};
 

@@ -7,7 +7,7 @@ ghost use Rattle.lk_rows.specs.Machine.{rest_lock};
 ghost use Rattle.lk_machine.specs.Packed.{Words as WordsValue, ArePacked, lock_in, lock_of, word_of, with_word, with_rw};
 
 use crate::machine::packed::{fields_in, rw_fields_in, rw_word_of, word_of};
-use lk_abs::{LockName, Memory};
+use lk_names::{LockName, Memory};
 use lk_word::{Fields, Layout, Locked, RwFields};
 use std::alloc::Global;
 use std::hash::Hasher;

@@ -3,9 +3,9 @@ use Rattle.std.proofs.Common.{◌≡◌, ◌≢◌, inl, inr, ℕ, zero, suc, �
 use Rattle.std.proofs.Common.{true, false, refl, sym, ap, ◌∙◌, subst, arith, length}
 use Rattle.std.proofs.lemmas.Bool.{cases_Bool, cases_eq}
 use Rattle.std.specs.Prelude.{slice_set}
-use Rattle.lk_abs.specs.History.{LockHistory, history_of}
-use Rattle.lk_abs.specs.declared.names.LockName.{LockName}
-use Rattle.lk_abs.specs.declared.events.Act.TheVariants as act
+use Rattle.lk_names.specs.History.{LockHistory, history_of}
+use Rattle.lk_names.specs.declared.names.LockName.{LockName}
+use Rattle.lk_names.specs.declared.events.Act.TheVariants as act
 use Rattle.lk_word.specs.declared.spin_word.Fields.{Fields}
 use Rattle.lk_word.specs.declared.spin_word.NodeName.{NodeName}
 use Rattle.lk_rows.specs.declared.parts.Node.{Node}
@@ -130,7 +130,7 @@ module _ (setup : Setup) (on : halts setup.mode ≡ true) where
   halting : (m : Machine) → R m → halts m.setup.mode ≡ true
   halting m r = ap (λ (s : Setup). halts s.mode) r.setup_is ∙ on
 
-  pub steps_on : (m : Machine) (a : Rattle.lk_abs.specs.declared.events.Act.Act) → R m
+  pub steps_on : (m : Machine) (a : Rattle.lk_names.specs.declared.events.Act.Act) → R m
       → Rattle.lk_rows.specs.Acts.processor_of a < length m.cpus → R (next m a).0
   steps_on m a r range =
       reached IsHalting IsHeadServed kept_served setup on (λ e. absurd (let z = on in cc (e, z))) (a ∷ []) m (range, tt) r

@@ -3,11 +3,11 @@ use Rattle.std.proofs.Common.{◌≡◌, ◌≢◌, ◌⊎◌, inl, inr, ℕ, �
 use Rattle.std.proofs.Common.{true, false, refl, sym, ap, ◌∙◌, subst, arith, length}
 use Rattle.std.proofs.lemmas.Bool.{cases_lt, cases_eq, eqb-true}
 use Rattle.std.specs.Prelude.{if◌then◌else◌, ◌==◌, nat_lt}
-use Rattle.lk_abs.specs.Names.{same_waiter}
-use Rattle.lk_abs.specs.History.{LockHistory}
-use Rattle.lk_abs.specs.declared.names.Waiter.{Waiter}
-use Rattle.lk_abs.specs.declared.names.LockName.{LockName}
-use Rattle.lk_abs.specs.declared.events.Act.{Act}
+use Rattle.lk_names.specs.Names.{same_waiter}
+use Rattle.lk_names.specs.History.{LockHistory}
+use Rattle.lk_names.specs.declared.names.Waiter.{Waiter}
+use Rattle.lk_names.specs.declared.names.LockName.{LockName}
+use Rattle.lk_names.specs.declared.events.Act.{Act}
 use Rattle.lk_rows.specs.declared.setup.Setup.{Setup}
 use Rattle.lk_rows.specs.declared.parts.Frame.{Frame}
 use Rattle.lk_rows.specs.declared.parts.Pc.{Pc}

@@ -2,10 +2,10 @@
 use Rattle.std.proofs.Common.{◌≡◌, ◌⊎◌, inl, inr, ℕ, zero, suc, ◌<◌, ◌≤◌, ◌+◌, ◌-◌, Bool, true, false, None, Some}
 use Rattle.std.proofs.Common.{refl, sym, ap, ◌∙◌, subst, arith, length}
 use Rattle.std.specs.Prelude.{if◌then◌else◌}
-use Rattle.lk_abs.specs.History.{LockHistory, history_of}
-use Rattle.lk_abs.specs.declared.events.Act.{Act}
-use Rattle.lk_abs.specs.declared.events.Act.TheVariants as act
-use Rattle.lk_abs.specs.declared.names.LockName.{LockName}
+use Rattle.lk_names.specs.History.{LockHistory, history_of}
+use Rattle.lk_names.specs.declared.events.Act.{Act}
+use Rattle.lk_names.specs.declared.events.Act.TheVariants as act
+use Rattle.lk_names.specs.declared.names.LockName.{LockName}
 use Rattle.lk_rows.specs.declared.parts.Frame.{Frame}
 use Rattle.lk_rows.specs.declared.setup.Setup.{Setup}
 use Rattle.lk_rows.specs.Acts.{idle, next, processor_of}

@@ -4,9 +4,9 @@ use Rattle.std.proofs.Common.{refl, sym, ap, ◌∙◌, subst, arith, eqb}
 use prog.Atomic.{either}
 use Rattle.std.specs.Prelude.{unwrap_or, if◌then◌else◌, is_some, ◌-◌, ◌==◌}
 use Rattle.atomic_table.specs.Table.{Me, keeps, Allows}
-use Rattle.lk_abs.specs.History.{LockHistory}
-use Rattle.lk_abs.specs.declared.names.Waiter.{Waiter}
-use Rattle.lk_abs.specs.declared.names.LockName.{LockName}
+use Rattle.lk_names.specs.History.{LockHistory}
+use Rattle.lk_names.specs.declared.names.Waiter.{Waiter}
+use Rattle.lk_names.specs.declared.names.LockName.{LockName}
 use Rattle.lk_word.specs.declared.spin_word.NodeName.{NodeName}
 use Rattle.lk_rows.specs.declared.parts.State.{State}
 use Rattle.lk_rows.specs.declared.parts.State.TheVariants.{Running, Halted, Hashed}

@@ -4,7 +4,7 @@ use Rattle.std.specs.Prelude.{◌==◌, if◌then◌else◌}
 use Rattle.std.proofs.lemmas.Bool.{cases_lt, le-ltb, lt-ltb}
 use Rattle.std.proofs.lemmas.List.{get_or_past}
 use Rattle.std.proofs.lemmas.Option.{slice_get-get_or, slice_get_within}
-use Rattle.lk_abs.specs.ListOf.{ListOf}
+use Rattle.lk_names.specs.ListOf.{ListOf}
 use Rattle.lk_rows.specs.declared.setup.Op.{Op}
 use Rattle.lk_rows.specs.declared.setup.Setup.{Setup}
 use Rattle.lk_rows.specs.Programs.{handlers_of, program_at}

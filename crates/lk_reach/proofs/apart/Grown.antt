@@ -1,11 +1,11 @@
 -- What is written down of an exploration grows, and what is known of it stays so.
 use Rattle.std.proofs.Common.{◌≡◌, ℕ, ◌<◌, ◌⊎◌, ◌+◌, List, [], ◌∷◌, sym, subst, length, Option, Some, inl, inr}
 use Rattle.std.specs.Prelude.{slice_get}
-use Rattle.lk_abs.specs.declared.events.Act.{Act}
+use Rattle.lk_names.specs.declared.events.Act.{Act}
 use Rattle.lk_rows.specs.declared.setup.Setup.{Setup}
 use Rattle.lk_rows.specs.Machine.{Machine}
-use Rattle.lk_abs.specs.declared.events.Event.{Event}
-use Rattle.lk_abs.proofs.ByIndex.{get-append}
+use Rattle.lk_names.specs.declared.events.Event.{Event}
+use Rattle.lk_names.proofs.ByIndex.{get-append}
 use Rattle.lk_reach.specs.declared.book.Book.{Book}
 use Rattle.lk_reach.specs.declared.origin.Origin.{Origin}
 use Rattle.lk_reach.specs.declared.plan.Plan.{Plan}

@@ -3,12 +3,12 @@ use Rattle.std.proofs.Common.{arith, ℕ, ◌≡◌, ◌∙◌, ◌<◌, ◌++�
 use Rattle.std.proofs.lemmas.List.{append-nil, drop_all, length-replicate, take_all}
 use Rattle.std.specs.Prelude.{IfSome, drop, slice_get, slice_index_or, take}
 use Rattle.std.proofs.lemmas.Option.{slice_get_within, slice_get-get_or}
-use Rattle.lk_abs.specs.declared.events.Act.{Act}
+use Rattle.lk_names.specs.declared.events.Act.{Act}
 use Rattle.lk_rows.specs.declared.setup.Setup.{Setup}
 use Rattle.lk_rows.specs.Acts.{next}
 use Rattle.lk_rows.specs.Machine.{Machine, rest_lock}
 use Rattle.lk_rows.specs.Run.{at_rest}
-use Rattle.lk_abs.proofs.ByIndex.{get-append}
+use Rattle.lk_names.proofs.ByIndex.{get-append}
 use Rattle.lk_idle.specs.Alike.{AreAlike}
 use Rattle.lk_reach.specs.declared.folding.Here.{Here}
 use Rattle.lk_reach.specs.declared.found.Finding.{Finding}

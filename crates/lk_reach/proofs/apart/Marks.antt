@@ -1,7 +1,7 @@
 -- The marks of rows, one by one.
 use Rattle.std.proofs.Common.{◌≡◌, ℕ, Bool, true, false, List, [], length, Some, sym, subst, inl, inr}
 use Rattle.std.specs.Prelude.{slice_get}
-use Rattle.lk_abs.proofs.ByIndex.{get-append}
+use Rattle.lk_names.proofs.ByIndex.{get-append}
 use Rattle.lk_rows.specs.declared.parts.Pc.{Pc}
 use Rattle.lk_reach.specs.Space.{SpaceValue}
 use Rattle.lk_reach.specs.Rows.{IsMade, IsUnmade, AreMarked, HasMarked}

@@ -15,7 +15,7 @@ use Rattle.lk_reach.specs.Peers.{AreFirsts, number_of}
 use Rattle.lk_reach.specs.Reach.{IsBegun, cpus_of, start_of}
 use Rattle.lk_reach.proofs.apart.Alike.{number_low, number_past}
 use Rattle.lk_rows.specs.Run.{at_rest, machine_after}
-use Rattle.lk_abs.specs.declared.events.Act.{Act}
+use Rattle.lk_names.specs.declared.events.Act.{Act}
 
 -- each processor keeps its number
 own_low : (p : ℕ) → p < 8 → get_or (0 ∷ 1 ∷ 2 ∷ 3 ∷ 4 ∷ 5 ∷ 6 ∷ 7 ∷ []) p p ≡ p

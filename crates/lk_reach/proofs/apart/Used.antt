@@ -4,7 +4,7 @@ use Rattle.std.proofs.lemmas.Bool.{cases_eq}
 use Rattle.std.proofs.lemmas.List.{length-replicate}
 use Rattle.std.proofs.lemmas.Option.{slice_get_within}
 use Rattle.std.specs.Prelude.{slice_get}
-use Rattle.lk_abs.proofs.ByIndex.{get-append_new}
+use Rattle.lk_names.proofs.ByIndex.{get-append_new}
 use Rattle.lk_rows.specs.Machine.{CpuState, cpu_at}
 use Rattle.lk_rows.specs.declared.parts.Pc.{Pc}
 use Rattle.lk_machine.specs.Parts.{row_of}

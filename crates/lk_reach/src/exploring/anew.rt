@@ -13,8 +13,8 @@ use crate::space::Space;
 use crate::spot::{Led, Spot, remember, remembered};
 use crate::steps::Steps;
 use crate::touch::touched_by;
-use lk_abs::{Act, Memory};
 use lk_machine::Machine;
+use lk_names::{Act, Memory};
 
 // Makes an act on a state, and remembers where it led. Each part of that is met then.
 fn make_anew(

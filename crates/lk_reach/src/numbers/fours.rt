@@ -4,7 +4,7 @@ ghost use Rattle.std.specs.Prelude.{◌≡◌, ◌+◌, ◌*◌, [], ◌∷◌, 
 ghost use Rattle.lk_reach.specs.Numbers.{Puts, PutsFour, four_at, joined, lower_halves, none, upper_halves};
 
 use crate::numbers::padded::{item_at, put_item};
-use lk_abs::Memory;
+use lk_names::Memory;
 use std::alloc::Global;
 
 // So many values has a half of a number.

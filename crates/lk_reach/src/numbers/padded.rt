@@ -3,7 +3,7 @@
 ghost use Rattle.std.specs.Prelude.{◌≡◌, ◌++◌, ◌∷◌, [], OnOk, slice_index_or, true};
 ghost use Rattle.lk_reach.specs.Numbers.{Pads, Puts};
 
-use lk_abs::Memory;
+use lk_names::Memory;
 
 /// The item at a position.
 #[inline]

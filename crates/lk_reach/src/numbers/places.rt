@@ -4,7 +4,7 @@ ghost use Rattle.std.specs.Prelude.{◌≡◌, OnOk};
 ghost use Rattle.lk_reach.specs.Numbers.{PutsPlace, place_at};
 
 use crate::numbers::padded::{item_at, put_item};
-use lk_abs::Memory;
+use lk_names::Memory;
 use std::alloc::Global;
 
 /// The number of a state at each position, which is 0 where none was put. Its lower three bytes stand

@@ -8,8 +8,8 @@ ghost use Rattle.lk_reach.specs.Space.{AddsFold, Folds, Grows, IsFolded, IsFoldN
 
 use crate::key::Key;
 use crate::space::Space;
-use lk_abs::Memory;
 use lk_machine::Machine;
+use lk_names::Memory;
 
 impl Space {
     // Whether the fold of the state with this number has the form of this one.

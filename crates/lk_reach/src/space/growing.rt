@@ -6,7 +6,7 @@ ghost use Rattle.std.specs.Prelude.{◌≡◌, ◌<◌};
 use crate::helpers::Part;
 use crate::slots::Slots;
 use crate::space::Space;
-use lk_abs::Memory;
+use lk_names::Memory;
 use std::thread::Threads;
 use std::{mem, thread};
 

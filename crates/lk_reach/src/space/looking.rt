@@ -8,8 +8,8 @@ ghost use Rattle.lk_reach.specs.Space.{IsNumbered, IsNumberOf, IsSameKind, Keeps
 
 use crate::key::Key;
 use crate::space::Space;
-use lk_abs::Memory;
 use lk_machine::Machine;
+use lk_names::Memory;
 use std::thread::Threads;
 
 impl Space {

@@ -12,8 +12,8 @@ use crate::ends::{is_marked, mark};
 use crate::graph::add_mark;
 use crate::key::Key;
 use crate::space::{Space, is_row};
-use lk_abs::Memory;
 use lk_machine::CpuState;
+use lk_names::Memory;
 use lk_rows::Pc;
 use std::alloc::Global;
 

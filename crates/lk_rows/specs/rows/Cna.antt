@@ -3,7 +3,7 @@
 -- and then lets the secondary queue return.
 use Rattle.std.specs.Prelude.{◌+◌, ◌&&◌, not, is_some, nat_lt, ℕ, Option, Some, None, Bool}
 use Rattle.std.specs.Prelude.{true, false, [], ◌∷◌, if◌then◌else◌}
-use Rattle.lk_abs.specs.declared.events.What.TheVariants as what
+use Rattle.lk_names.specs.declared.events.What.TheVariants as what
 use Rattle.lk_word.specs.declared.spin_word.NodeName.{NodeName}
 use Rattle.lk_word.specs.declared.spin_word.Locked.{Locked}
 use Rattle.lk_word.specs.declared.spin_word.Locked.TheVariants.{Held}

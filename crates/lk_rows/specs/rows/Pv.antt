@@ -3,8 +3,8 @@
 -- that does so for the next, and the release with its kick.
 use Rattle.std.specs.Prelude.{◌==◌, ◌-◌, ◌&&◌, not, is_some, ℕ, Option, Some, None, Bool, true}
 use Rattle.std.specs.Prelude.{false, [], ◌∷◌, if◌then◌else◌}
-use Rattle.lk_abs.specs.declared.events.What.TheVariants as what
-use Rattle.lk_abs.specs.declared.events.How.TheVariants as how
+use Rattle.lk_names.specs.declared.events.What.TheVariants as what
+use Rattle.lk_names.specs.declared.events.How.TheVariants as how
 use Rattle.lk_word.specs.declared.spin_word.NodeName.{NodeName}
 use Rattle.lk_word.specs.declared.spin_word.Locked.{Locked}
 use Rattle.lk_word.specs.declared.spin_word.Locked.TheVariants.{Free, Held, Slow}

@@ -2,11 +2,11 @@
 -- one that takes a node. They are those of the slow path of Linux's qspinlock.c.
 use Rattle.std.specs.Prelude.{◌+◌, ◌==◌, ℕ, Option, Some, None, Bool, List, [], ◌∷◌, ◌&&◌, not}
 use Rattle.std.specs.Prelude.{is_some, nat_lt, if◌then◌else◌}
-use Rattle.lk_abs.specs.declared.names.Mode.{Mode}
-use Rattle.lk_abs.specs.declared.names.Mode.TheVariants.{Cna, Pv}
-use Rattle.lk_abs.specs.declared.events.How.{How}
-use Rattle.lk_abs.specs.declared.events.How.TheVariants as how
-use Rattle.lk_abs.specs.declared.events.What.TheVariants.{Take, Arrive}
+use Rattle.lk_names.specs.declared.names.Mode.{Mode}
+use Rattle.lk_names.specs.declared.names.Mode.TheVariants.{Cna, Pv}
+use Rattle.lk_names.specs.declared.events.How.{How}
+use Rattle.lk_names.specs.declared.events.How.TheVariants as how
+use Rattle.lk_names.specs.declared.events.What.TheVariants.{Take, Arrive}
 use Rattle.lk_word.specs.declared.spin_word.NodeName.{NodeName}
 use Rattle.lk_word.specs.declared.spin_word.Locked.TheVariants.{Held}
 use Rattle.lk_word.specs.declared.spin_word.Fields.{Fields}

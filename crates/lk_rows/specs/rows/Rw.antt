@@ -2,11 +2,11 @@
 -- qrwlock.c.
 use Rattle.std.specs.Prelude.{◌+◌, ◌-◌, ◌==◌, Option, Some, None, Bool, true, false, [], ◌&&◌, not}
 use Rattle.std.specs.Prelude.{if◌then◌else◌}
-use Rattle.lk_abs.specs.declared.names.Mode.{Mode}
-use Rattle.lk_abs.specs.declared.names.LockName.{LockName}
-use Rattle.lk_abs.specs.declared.events.RwHow.{RwHow}
-use Rattle.lk_abs.specs.declared.events.RwHow.TheVariants as how
-use Rattle.lk_abs.specs.declared.events.What.TheVariants.{Miss, RTake, RRelease, WTake, WRelease}
+use Rattle.lk_names.specs.declared.names.Mode.{Mode}
+use Rattle.lk_names.specs.declared.names.LockName.{LockName}
+use Rattle.lk_names.specs.declared.events.RwHow.{RwHow}
+use Rattle.lk_names.specs.declared.events.RwHow.TheVariants as how
+use Rattle.lk_names.specs.declared.events.What.TheVariants.{Miss, RTake, RRelease, WTake, WRelease}
 use Rattle.lk_word.specs.declared.rw_word.RwFields.{RwFields}
 use Rattle.lk_rows.specs.declared.setup.Verb.TheVariants.{Unlock}
 use Rattle.lk_rows.specs.declared.parts.Frame.{Frame}

@@ -3,11 +3,11 @@
 -- fallback under a hypervisor.
 use Rattle.std.specs.Prelude.{Some, None, Bool, true, false, [], ◌∷◌, ◌&&◌, not, is_some}
 use Rattle.std.specs.Prelude.{if◌then◌else◌}
-use Rattle.lk_abs.specs.declared.names.Mode.{Mode}
-use Rattle.lk_abs.specs.declared.names.Mode.TheVariants.{Virt, Pv}
-use Rattle.lk_abs.specs.declared.events.How.{How}
-use Rattle.lk_abs.specs.declared.events.How.TheVariants as how
-use Rattle.lk_abs.specs.declared.events.What.TheVariants.{Take, Miss, Release}
+use Rattle.lk_names.specs.declared.names.Mode.{Mode}
+use Rattle.lk_names.specs.declared.names.Mode.TheVariants.{Virt, Pv}
+use Rattle.lk_names.specs.declared.events.How.{How}
+use Rattle.lk_names.specs.declared.events.How.TheVariants as how
+use Rattle.lk_names.specs.declared.events.What.TheVariants.{Take, Miss, Release}
 use Rattle.lk_word.specs.declared.spin_word.Locked.{Locked}
 use Rattle.lk_word.specs.declared.spin_word.Locked.TheVariants.{Free, Held}
 use Rattle.lk_word.specs.declared.spin_word.Fields.{Fields}

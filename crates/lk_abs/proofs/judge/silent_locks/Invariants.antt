@@ -1,5 +1,5 @@
 use Rattle.std.proofs.Common.{◌≡◌, replicate}
-use Rattle.lk_abs.specs.History.{no_history}
+use Rattle.lk_names.specs.History.{no_history}
 use Rattle.lk_abs.proofs.judge.silent_locks.Given as goal
 
 abbrev pub invariant-loop : goal.invariant-loop

@@ -1,7 +1,7 @@
 -- The earliest such hold is taken out, if there is one.
 use Rattle.std.proofs.Common.{sym, ap, ◌∙◌}
 use Rattle.std.specs.List.{position}
-use Rattle.lk_abs.specs.History.{is_hold}
+use Rattle.lk_names.specs.History.{is_hold}
 use Rattle.lk_abs.proofs.Holding.{remove_from_position, same_from_no_position}
 use Rattle.lk_abs.proofs.lock_record.let_go.Goals as goal
 

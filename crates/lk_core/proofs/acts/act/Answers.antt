@@ -1,5 +1,5 @@
 use Rattle.std.proofs.Common.{ap, sym, ◌∙◌}
-use Rattle.lk_abs.specs.declared.events.Act.TheVariants as act
+use Rattle.lk_names.specs.declared.events.Act.TheVariants as act
 use Rattle.lk_rows.specs.Row.{Answer}
 use Rattle.lk_core.proofs.ActDone.{act_done, preempt_is, resume_is}
 use Rattle.lk_core.proofs.acts.act.Goals as goal

@@ -1,5 +1,5 @@
 use Rattle.std.proofs.Common.{◌≡◌, ◌+◌, [], length}
-use Rattle.lk_abs.specs.declared.limits.TheConstants.{MAX_SOCKET}
+use Rattle.lk_names.specs.declared.limits.TheConstants.{MAX_SOCKET}
 use Rattle.lk_forms.specs.Words.{words}
 use Rattle.lk_forms.specs.Grammar.{numbers_from}
 use Rattle.lk_forms.proofs.settings.read_sockets.Given as goal

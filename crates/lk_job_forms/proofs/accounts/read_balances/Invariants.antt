@@ -1,5 +1,5 @@
 use Rattle.std.proofs.Common.{◌≡◌, ◌≤◌, [], length}
-use Rattle.lk_abs.specs.declared.limits.TheConstants.{MAX_ACCOUNTS}
+use Rattle.lk_names.specs.declared.limits.TheConstants.{MAX_ACCOUNTS}
 use Rattle.lk_forms.specs.Words.{words}
 use Rattle.lk_job_forms.specs.Lines.{balances_from}
 use Rattle.lk_job_forms.proofs.accounts.read_balances.Given as goal

@@ -1,4 +1,4 @@
-use Rattle.lk_abs.specs.declared.holder.Manner.TheVariants.{Spins}
+use Rattle.lk_names.specs.declared.holder.Manner.TheVariants.{Spins}
 use Rattle.lk_lock.proofs.AwakeSteps.{frees, is_of}
 use Rattle.lk_lock.proofs.Steps.{is_held, none_out}
 use Rattle.lk_lock.proofs.holding.free_now.Goals as goal

@@ -1,4 +1,4 @@
-use Rattle.lk_abs.specs.declared.holder.Manner.TheVariants.{Reads}
+use Rattle.lk_names.specs.declared.holder.Manner.TheVariants.{Reads}
 use Rattle.lk_rows.specs.declared.setup.Verb.TheVariants.{Read}
 use Rattle.lk_lock.proofs.AwakeSteps.{awake_rw, enters, is_of}
 use Rattle.lk_lock.proofs.reading.come_in.Goals as goal

@@ -1,4 +1,4 @@
-use Rattle.lk_abs.specs.declared.holder.Manner.TheVariants.{Reads}
+use Rattle.lk_names.specs.declared.holder.Manner.TheVariants.{Reads}
 use Rattle.lk_rows.specs.declared.parts.Pc.TheVariants.{Z1}
 use Rattle.lk_lock.proofs.AwakeSteps.{awake_rw, is_of, leaves}
 use Rattle.lk_lock.proofs.Steps.{none_out, way_held}

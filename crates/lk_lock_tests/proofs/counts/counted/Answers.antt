@@ -1,4 +1,4 @@
-use Rattle.lk_abs.specs.declared.names.Kind.TheVariants.{Spin as spinning}
+use Rattle.lk_names.specs.declared.names.Kind.TheVariants.{Spin as spinning}
 use Rattle.lk_lock_tests.proofs.counts.counted.Goals as goal
 
 pub into_value-requires : goal.into_value-requires

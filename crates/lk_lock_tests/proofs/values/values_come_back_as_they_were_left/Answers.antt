@@ -1,6 +1,6 @@
 use Rattle.std.proofs.Common.{arith, subst}
 use Rattle.std.proofs.lemmas.Option.{get_or_from_slice_get, slice_get_within}
-use Rattle.lk_abs.specs.declared.names.Kind.TheVariants.{Rw as shared, Spin as spinning}
+use Rattle.lk_names.specs.declared.names.Kind.TheVariants.{Rw as shared, Spin as spinning}
 use Rattle.lk_lock.specs.Standing.{Rests}
 use Rattle.lk_lock_tests.proofs.values.values_come_back_as_they_were_left.Goals as goal
 

@@ -1,5 +1,5 @@
 use Rattle.std.proofs.Common.{subst}
-use Rattle.lk_abs.specs.declared.names.Mode.{Mode}
+use Rattle.lk_names.specs.declared.names.Mode.{Mode}
 use Rattle.lk_port.specs.Opened.{mode_of, IsPlanFor}
 use Rattle.lk_port.proofs.Opened as opened
 use Rattle.lk_port.proofs.opening.open.Goals as goal

@@ -1,5 +1,5 @@
 use Rattle.std.proofs.Common.{arith, subst, ◌∙◌}
-use Rattle.lk_abs.specs.declared.names.LockName.{LockName}
+use Rattle.lk_names.specs.declared.names.LockName.{LockName}
 use Rattle.lk_domain.specs.Calls.{running}
 use Rattle.lk_pvdomain.specs.PvPlays.{EmptiesAt}
 use Rattle.lk_pvdomain.proofs.OnSeeks.{erase_asks}

@@ -1,6 +1,6 @@
 use Rattle.std.proofs.Common.{◌≡◌, ◌<◌, ◌+◌, ◌∙◌, suc, ap, arith, length, subst, sym}
 use Rattle.std.specs.Prelude.{take}
-use Rattle.lk_abs.specs.declared.events.Act.{Act}
+use Rattle.lk_names.specs.declared.events.Act.{Act}
 use Rattle.lk_law.specs.Sound.{IsSound}
 use Rattle.lk_rows.specs.Acts.{processor_of}
 use Rattle.lk_rows.specs.Machine.{Machine}

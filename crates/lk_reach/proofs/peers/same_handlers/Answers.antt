@@ -2,7 +2,7 @@ use Rattle.std.proofs.Common.{◌≡◌, ◌∙◌, ℕ, Some, ap, arith, inl, i
 use Rattle.std.specs.Prelude.{slice_get}
 use Rattle.std.proofs.lemmas.Bool.{cases_eq}
 use Rattle.std.proofs.lemmas.Option.{slice_get_within}
-use Rattle.lk_abs.specs.ListOf.{ListOf}
+use Rattle.lk_names.specs.ListOf.{ListOf}
 use Rattle.lk_rows.specs.declared.setup.Op.{Op}
 use Rattle.lk_reach.proofs.Kept.{one_value}
 use Rattle.lk_reach.proofs.peers.same_handlers.Goals as goal

@@ -1,6 +1,6 @@
 use Rattle.std.proofs.Common.{arith, ◌≡◌, ◌<◌, ℕ, List, sym, subst, ◌+◌, true}
-use Rattle.lk_abs.specs.declared.events.Act.{Act}
-use Rattle.lk_abs.specs.declared.events.Act.TheVariants as act
+use Rattle.lk_names.specs.declared.events.Act.{Act}
+use Rattle.lk_names.specs.declared.events.Act.TheVariants as act
 use Rattle.lk_reach.specs.Reach.{cpus_of}
 use Rattle.lk_reach.specs.Space.{IsFront}
 use Rattle.lk_reach.specs.Explored.{Among, OnlyMoves}

@@ -1,4 +1,4 @@
-use Rattle.lk_abs.specs.declared.events.Act.TheVariants as act
+use Rattle.lk_names.specs.declared.events.Act.TheVariants as act
 use Rattle.lk_reach.proofs.apart.Moves.{are_all, among_front}
 use Rattle.lk_reach.proofs.plan.moves.Goals as goal
 

@@ -1,6 +1,6 @@
 use Rattle.std.proofs.Common.{arith, ℕ, ◌≡◌, ◌∙◌, ◌<◌, Option, ap, sym, subst, length, inl, inr}
 use Rattle.std.specs.Prelude.{IfSome, slice_get}
-use Rattle.lk_abs.specs.declared.events.Act.TheVariants as act
+use Rattle.lk_names.specs.declared.events.Act.TheVariants as act
 use Rattle.lk_rows.specs.declared.setup.Setup.{Setup}
 use Rattle.lk_rows.specs.Acts.{next, processor_of}
 use Rattle.lk_rows.specs.Machine.{Machine}

@@ -1,6 +1,6 @@
 use Rattle.std.proofs.Common.{ap, sym, refl, length, subst, ◌∙◌}
-use Rattle.lk_abs.specs.declared.holder.Manner.TheVariants.{Reads}
-use Rattle.lk_abs.specs.declared.names.LockName.{LockName}
+use Rattle.lk_names.specs.declared.holder.Manner.TheVariants.{Reads}
+use Rattle.lk_names.specs.declared.names.LockName.{LockName}
 use Rattle.lk_rows.specs.declared.parts.Pc.TheVariants.{R1}
 use Rattle.lk_rows.specs.declared.setup.Verb.TheVariants.{Read}
 use Rattle.lk_domain.specs.Calls.{waits_in}

@@ -1,5 +1,5 @@
 use Rattle.std.proofs.Common.{refl, sym, ◌∙◌}
-use Rattle.lk_abs.specs.declared.holder.Manner.TheVariants.{Reads}
+use Rattle.lk_names.specs.declared.holder.Manner.TheVariants.{Reads}
 use Rattle.lk_rows.specs.declared.parts.Pc.TheVariants.{Y2, Y3}
 use Rattle.lk_rows.specs.declared.setup.Verb.TheVariants.{TryRead}
 use Rattle.lk_domain.specs.Calls.{waits_in}

@@ -1,5 +1,5 @@
 use Rattle.std.proofs.Common.{ap, refl}
-use Rattle.lk_abs.specs.declared.holder.Manner.TheVariants.{Writes}
+use Rattle.lk_names.specs.declared.holder.Manner.TheVariants.{Writes}
 use Rattle.lk_rows.specs.declared.parts.Pc.TheVariants.{Wr1, Wr2}
 use Rattle.lk_rows.specs.declared.setup.Verb.TheVariants.{Write}
 use Rattle.lk_domain.specs.Calls.{waits_in}

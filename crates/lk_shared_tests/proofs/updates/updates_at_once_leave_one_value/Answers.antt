@@ -1,5 +1,5 @@
 use Rattle.std.proofs.Common.{arith}
-use Rattle.lk_abs.specs.declared.names.Kind.TheVariants.{Spin as spinning}
+use Rattle.lk_names.specs.declared.names.Kind.TheVariants.{Spin as spinning}
 use Rattle.lk_lock.proofs.Closings.{shared_key}
 use Rattle.lk_shared_tests.proofs.updates.updates_at_once_leave_one_value.Goals as goal
 

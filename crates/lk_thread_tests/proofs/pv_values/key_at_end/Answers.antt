@@ -1,5 +1,5 @@
 use Rattle.std.proofs.Common.{Option, ap, sym, ◌∙◌}
-use Rattle.lk_abs.specs.ListOf.{ListOf}
+use Rattle.lk_names.specs.ListOf.{ListOf}
 use Rattle.lk_domain.specs.Values.{Key}
 use Rattle.lk_thread_tests.proofs.Counted.{last_fits, not_none, is_key}
 use Rattle.lk_thread_tests.proofs.pv_values.key_at_end.Goals as goal

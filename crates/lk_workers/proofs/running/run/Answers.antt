@@ -1,7 +1,7 @@
 use Rattle.std.proofs.Common.{ℕ, [], ap, sym, subst, ◌∙◌}
-use Rattle.lk_abs.specs.ListOf.{ListOf}
-use Rattle.lk_abs.specs.declared.ledger.Seen.{Seen}
-use Rattle.lk_abs.specs.Workload.{workload_of}
+use Rattle.lk_names.specs.ListOf.{ListOf}
+use Rattle.lk_names.specs.declared.ledger.Seen.{Seen}
+use Rattle.lk_names.specs.Workload.{workload_of}
 use Rattle.lk_guard.specs.Guards.{Guard}
 use Rattle.lk_workers.specs.Ended.{IsEndOf}
 use Rattle.lk_workers.proofs.Outcomes.{all_outcome, through_count}

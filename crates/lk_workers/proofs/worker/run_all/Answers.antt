@@ -1,10 +1,10 @@
 use denote.Param.Send.{sendable}
 use Rattle.std.proofs.Crossing.{crosses}
-use Rattle.lk_abs.proofs.list.List.TheSendSync as list
-use Rattle.lk_abs.proofs.names.Topology.TheSendSync as topology
-use Rattle.lk_abs.proofs.names.Format.TheSendSync as format
-use Rattle.lk_abs.proofs.names.Mode.TheSendSync as mode
-use Rattle.lk_abs.proofs.names.Kind.TheSendSync as kind
+use Rattle.lk_names.proofs.list.List.TheSendSync as list
+use Rattle.lk_names.proofs.names.Topology.TheSendSync as topology
+use Rattle.lk_names.proofs.names.Format.TheSendSync as format
+use Rattle.lk_names.proofs.names.Mode.TheSendSync as mode
+use Rattle.lk_names.proofs.names.Kind.TheSendSync as kind
 use Rattle.lk_workers.proofs.worker.run_all.Goals as goal
 
 pub for_each_mut-requires-sync-F : goal.for_each_mut-requires-sync-F

@@ -1,6 +1,6 @@
 use Rattle.std.proofs.Common.{◌++◌, ◌∷◌, [], length, length-append, map, take, sym, ap, ◌∙◌, arith}
-use Rattle.lk_abs.specs.ListOf.{ListOf}
-use Rattle.lk_abs.specs.declared.names.Kind.{Kind}
+use Rattle.lk_names.specs.ListOf.{ListOf}
+use Rattle.lk_names.specs.declared.names.Kind.{Kind}
 use Rattle.qlock_c.specs.Opened.{kind_numbered}
 use Rattle.qlock_c.proofs.Opened.{map_more, take_all}
 use Rattle.qlock_c.proofs.opening.kinds_of.Goals as goal

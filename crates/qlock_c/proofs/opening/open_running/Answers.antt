@@ -1,6 +1,6 @@
 use Rattle.std.proofs.Common.{◌≡◌, ℕ, List, length, refl, sym, ap, ◌∙◌, subst}
-use Rattle.lk_abs.specs.ListOf.{ListOf}
-use Rattle.lk_abs.specs.declared.names.Kind.{Kind}
+use Rattle.lk_names.specs.ListOf.{ListOf}
+use Rattle.lk_names.specs.declared.names.Kind.{Kind}
 use Rattle.lk_port.specs.Opened.{ArePortsOf, IsPlanFor, mode_of}
 use Rattle.qlock_c.proofs.opening.open_running.Goals as goal
 

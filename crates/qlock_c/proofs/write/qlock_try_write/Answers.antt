@@ -1,5 +1,5 @@
 use Rattle.std.proofs.Common.{◌≡◌, Some, refl, sym, ◌∙◌, subst}
-use Rattle.lk_abs.specs.declared.holder.Manner.TheVariants.{Writes}
+use Rattle.lk_names.specs.declared.holder.Manner.TheVariants.{Writes}
 use Rattle.lk_rows.specs.declared.setup.Verb.TheVariants.{TryWrite}
 use Rattle.lk_port.specs.AnyPorts.{EntersAtOnce}
 use Rattle.lk_port.specs.declared.any_port.AnyPort.{AnyPort}

@@ -1,5 +1,5 @@
 use Rattle.std.proofs.Common.{◌≡◌, ◌-◌, length}
-use Rattle.lk_abs.specs.Names.{locks_from}
+use Rattle.lk_names.specs.Names.{locks_from}
 use Rattle.lk_abs.specs.NoKick.{no_kick}
 use Rattle.lk_abs.specs.Remembered.{state_of}
 use Rattle.lk_abs.specs.Judge.{history_at}

@@ -1,6 +1,6 @@
 -- Those who stand aside are asked before those who are moved now, as they then stand behind them.
 use Rattle.std.proofs.Common.{refl}
-use Rattle.lk_abs.specs.Lists.{history_of_lists}
+use Rattle.lk_names.specs.Lists.{history_of_lists}
 use Rattle.lk_abs.proofs.Steps.{over-passed}
 use Rattle.lk_abs.proofs.lock_record.LockRecord.over_threshold.Goals as goal
 

@@ -5,9 +5,9 @@ use Rattle.lk_abs.proofs.Holding.{held-push, hold_left, held-without}
 use Rattle.lk_abs.proofs.QueueRoom.{in_order-push, in_order-pop, in_order-passed, in_order-rejoined, room_left, total_within}
 use Rattle.lk_abs.proofs.Clauses.{counts-passed}
 use Rattle.lk_abs.proofs.Telling.{new_from_take, new_from_rtake, new_from_wtake, sole-front, leave-front, next_from_pass, few_from_pass, new_from_arrive}
-use Rattle.lk_abs.specs.Lists.{history_of_lists}
+use Rattle.lk_names.specs.Lists.{history_of_lists}
 use Rattle.lk_abs.proofs.lock_record.LockRecord.tell.Goals as goal
-use Rattle.lk_abs.specs.declared.holder.Manner.TheVariants.{Spins, Reads, Writes}
+use Rattle.lk_names.specs.declared.holder.Manner.TheVariants.{Spins, Reads, Writes}
 
 pub push-requires : goal.push-requires
 push-requires c =

@@ -1,6 +1,6 @@
 -- No queue is longer than there are waiters.
 use Rattle.std.proofs.Common.{◌≤◌, List, length, sym, subst}
-use Rattle.lk_abs.specs.declared.names.Waiter.{Waiter}
+use Rattle.lk_names.specs.declared.names.Waiter.{Waiter}
 use Rattle.lk_abs.proofs.QueueRoom.{main_small}
 use Rattle.lk_abs.proofs.lock_record.LockRecord.wrong_move.Goals as goal
 

@@ -1,6 +1,6 @@
 use Rattle.std.proofs.Common.{◌≡◌, ◌+◌, ℕ, Bool, drop, sym, ap, ◌∙◌, arith}
-use Rattle.lk_abs.specs.declared.names.Waiter.{Waiter}
-use Rattle.lk_abs.specs.Lawful.{is_far, movable}
+use Rattle.lk_names.specs.declared.names.Waiter.{Waiter}
+use Rattle.lk_names.specs.Lawful.{is_far, movable}
 use Rattle.lk_abs.proofs.Steps.{movable-last, movable-near}
 use Rattle.lk_abs.proofs.rulebook.Rulebook.movable.Goals as goal
 use Rattle.lk_abs.proofs.rulebook.Rulebook.movable.Goals.{then-at-behind-via-then-at-behind, then-at-behind-via-else-at-behind+then-not-is_far}

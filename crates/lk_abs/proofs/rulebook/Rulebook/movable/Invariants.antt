@@ -1,5 +1,5 @@
 use Rattle.std.proofs.Common.{◌≡◌, ◌+◌, drop}
-use Rattle.lk_abs.specs.Lawful.{movable, is_far}
+use Rattle.lk_names.specs.Lawful.{movable, is_far}
 use Rattle.lk_abs.proofs.rulebook.Rulebook.movable.Given as goal
 
 abbrev pub invariant-loop-at : goal.invariant-loop-at

@@ -1,8 +1,8 @@
 use Rattle.std.proofs.Common.{sym, ap, ◌∙◌, ◌≡◌, ◌<◌, ◌+◌, Some, None, subst, arith, get_or, List, ℕ}
 use Rattle.std.specs.Slots.{slots_items}
-use Rattle.lk_abs.specs.declared.ledger.Entry.{Entry}
+use Rattle.lk_names.specs.declared.ledger.Entry.{Entry}
 use Rattle.lk_domain.specs.Ends.{IsEnd}
-use Rattle.lk_abs.specs.Journal.{balances_after}
+use Rattle.lk_names.specs.Journal.{balances_after}
 use Rattle.lk_domain.specs.Plans.{cpus_of, accounts_of}
 use Rattle.lk_domain.specs.Values.{FitsUnder, homes_of}
 use Rattle.lk_domain.specs.Words.{balance_at}

@@ -1,6 +1,6 @@
 use Rattle.std.proofs.Common.{◌≡◌, ℕ, Bool, false, refl, subst}
 use Rattle.std.specs.Prelude.{◌&&◌}
-use Rattle.lk_abs.specs.declared.names.LockName.{LockName}
+use Rattle.lk_names.specs.declared.names.LockName.{LockName}
 use Rattle.lk_rows.specs.declared.setup.Verb.TheVariants.{Lock}
 use Rattle.lk_rows.specs.declared.setup.Verb.{Verb}
 use Rattle.lk_domain.specs.Calls.{Calls, slow_in}

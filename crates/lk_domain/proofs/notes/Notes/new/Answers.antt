@@ -1,5 +1,5 @@
 use Rattle.std.proofs.Common.{Bool, refl, ap, arith}
-use Rattle.lk_abs.specs.ListOf.{ListOf}
+use Rattle.lk_names.specs.ListOf.{ListOf}
 use Rattle.lk_domain.proofs.turns.Marks.{marks_none}
 use Rattle.lk_domain.proofs.notes.Notes.new.Goals as goal
 

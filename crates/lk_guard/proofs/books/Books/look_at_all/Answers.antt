@@ -1,6 +1,6 @@
 use Rattle.std.proofs.Common.{ap, refl, ◌∙◌}
-use Rattle.lk_abs.specs.declared.ledger.Job.TheVariants.{Sum}
-use Rattle.lk_abs.specs.declared.ledger.Reply.TheVariants.{Amount}
+use Rattle.lk_names.specs.declared.ledger.Job.TheVariants.{Sum}
+use Rattle.lk_names.specs.declared.ledger.Reply.TheVariants.{Amount}
 use Rattle.lk_domain.specs.Ledgers.{Ledger}
 use Rattle.lk_domain.specs.Plans.{accounts_of}
 use Rattle.lk_guard.specs.Reads.{all_loaded, Answers}

@@ -1,5 +1,5 @@
 use Rattle.std.proofs.Common.{ℕ, refl, ap, ◌∙◌, subst}
-use Rattle.lk_abs.specs.declared.holder.Manner.TheVariants.{Spins}
+use Rattle.lk_names.specs.declared.holder.Manner.TheVariants.{Spins}
 use Rattle.lk_domain.specs.Ledgers.{Ledger, new_look}
 use Rattle.lk_domain.specs.Views.{own_number}
 use Rattle.lk_domain.specs.Seats.{ledger_of}

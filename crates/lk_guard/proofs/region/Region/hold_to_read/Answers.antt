@@ -1,6 +1,6 @@
 use Rattle.std.proofs.Common.{sym, ◌∙◌, subst}
-use Rattle.lk_abs.specs.declared.holder.Manner.TheVariants.{Reads}
-use Rattle.lk_abs.specs.declared.names.Kind.{Kind}
+use Rattle.lk_names.specs.declared.holder.Manner.TheVariants.{Reads}
+use Rattle.lk_names.specs.declared.names.Kind.{Kind}
 use Rattle.lk_rows.specs.declared.setup.Verb.TheVariants.{Read}
 use Rattle.lk_guard.specs.Guards.{guard_in, reads_as, reads_by}
 use Rattle.lk_guard.specs.Holding.{HasBegun}

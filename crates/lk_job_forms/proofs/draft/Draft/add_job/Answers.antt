@@ -1,8 +1,8 @@
 use Rattle.std.proofs.Common.{◌≡◌, false, List, Result, Ok, nat_le, inr, refl, sym, ap, ◌∙◌, arith}
 use Rattle.std.proofs.lemmas.List.{length-set}
-use Rattle.lk_abs.specs.declared.ledger.Job.{Job}
-use Rattle.lk_abs.specs.declared.limits.TheConstants.{MAX_JOBS}
-use Rattle.lk_abs.specs.Workload.{Workload, job_count}
+use Rattle.lk_names.specs.declared.ledger.Job.{Job}
+use Rattle.lk_names.specs.declared.limits.TheConstants.{MAX_JOBS}
+use Rattle.lk_names.specs.Workload.{Workload, job_count}
 use Rattle.lk_forms.specs.declared.answers.LineRefusal.{LineRefusal}
 use Rattle.lk_job_forms.specs.Draft.{work_of}
 use Rattle.lk_job_forms.proofs.Drafts.{none_added, one_added, one_counted}

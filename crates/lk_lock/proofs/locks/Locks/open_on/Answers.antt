@@ -1,5 +1,5 @@
 use Rattle.std.proofs.Common.{◌≡◌, rules, ℕ, List, Option, Some, length, sym, ap, ◌∙◌, subst}
-use Rattle.lk_abs.specs.ListOf.{ListOf}
+use Rattle.lk_names.specs.ListOf.{ListOf}
 use Rattle.lk_domain.specs.Values.{AreShut, Key, keys_of}
 use Rattle.lk_domain.specs.Views.{no_plan}
 use Rattle.lk_domain.proofs.seats.Dealt.{keys_laid}

@@ -1,5 +1,5 @@
 use Rattle.std.proofs.Common.{ℕ, ◌+◌, refl, sym, ap, ◌∙◌}
-use Rattle.lk_abs.specs.declared.names.Kind.TheVariants.{Rw}
+use Rattle.lk_names.specs.declared.names.Kind.TheVariants.{Rw}
 use Rattle.lk_lock.specs.Cells.{names_of}
 use Rattle.lk_lock.proofs.Laid.{are_shut, many_names}
 use Rattle.lk_lock.proofs.Mades.{among, keeps, keeps_shared}

@@ -1,5 +1,5 @@
 use Rattle.std.proofs.Common.{Option, sym, subst}
-use Rattle.lk_abs.specs.ListOf.{ListOf}
+use Rattle.lk_names.specs.ListOf.{ListOf}
 use Rattle.lk_domain.specs.Values.{AreLaid, Key}
 use Rattle.lk_lock.proofs.Closings.{all_keys}
 use Rattle.lk_lock.proofs.Resting.{all_end}

@@ -1,6 +1,6 @@
 use Rattle.std.proofs.Common.{◌≡◌, sym, ap, ◌∙◌, subst}
 use Rattle.std.proofs.lemmas.Bool.{true≢false}
-use Rattle.lk_abs.specs.declared.names.Kind.TheVariants.{Spin}
+use Rattle.lk_names.specs.declared.names.Kind.TheVariants.{Spin}
 use Rattle.lk_port.specs.AnyPorts.{Locks, Refuses}
 use Rattle.lk_port.specs.PvPorts.{is_turn}
 use Rattle.lk_port.specs.declared.any_port.AnyPort.{AnyPort}

@@ -1,6 +1,6 @@
 use Rattle.std.proofs.Common.{None, false, set, subst, arith}
 use Rattle.std.specs.Arc.{arc_value}
-use Rattle.lk_abs.specs.declared.holder.Manner.TheVariants as manner
+use Rattle.lk_names.specs.declared.holder.Manner.TheVariants as manner
 use Rattle.lk_rows.specs.declared.setup.Verb.TheVariants.{Read}
 use Rattle.lk_domain.specs.declared.domain.Domain.{Domain}
 use Rattle.lk_run.specs.Phases.{CameIn, starting}

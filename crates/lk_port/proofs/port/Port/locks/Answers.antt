@@ -2,7 +2,7 @@ use Rattle.std.proofs.Common.{None, refl, subst, sym}
 use Rattle.std.specs.Arc.{arc_value}
 use Rattle.lk_rows.specs.declared.setup.Verb.TheVariants.{Lock}
 use Rattle.lk_domain.specs.declared.domain.Domain.{Domain}
-use Rattle.lk_abs.specs.declared.holder.Manner.TheVariants as manner
+use Rattle.lk_names.specs.declared.holder.Manner.TheVariants as manner
 use Rattle.lk_run.specs.Phases.{Holds}
 use Rattle.lk_run.specs.Polled.{Waits}
 use Rattle.lk_run.proofs.Steps.{still_of}

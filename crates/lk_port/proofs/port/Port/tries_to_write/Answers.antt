@@ -1,6 +1,6 @@
 use Rattle.std.proofs.Common.{set, true, subst, arith}
 use Rattle.std.specs.Arc.{arc_value}
-use Rattle.lk_abs.specs.declared.holder.Manner.TheVariants as manner
+use Rattle.lk_names.specs.declared.holder.Manner.TheVariants as manner
 use Rattle.lk_rows.specs.declared.setup.Verb.TheVariants.{TryWrite}
 use Rattle.lk_domain.specs.Seats.{calls_of}
 use Rattle.lk_domain.specs.Waits.{Gains}

@@ -1,5 +1,5 @@
 use Rattle.std.proofs.Common.{true, refl, sym, ◌∙◌}
-use Rattle.lk_abs.specs.declared.names.Kind.TheVariants.{Spin}
+use Rattle.lk_names.specs.declared.names.Kind.TheVariants.{Spin}
 use Rattle.lk_port.proofs.PvPorts as port
 use Rattle.lk_port.proofs.pv_port.PvPort.frees.Goals as goal
 

@@ -1,4 +1,4 @@
-use Rattle.lk_abs.specs.declared.names.Kind.TheVariants.{Spin}
+use Rattle.lk_names.specs.declared.names.Kind.TheVariants.{Spin}
 use Rattle.lk_port.specs.declared.answer.Answer.TheVariants.{Done, Busy}
 use Rattle.lk_port.proofs.PvPorts as port
 use Rattle.lk_port.proofs.pv_port.PvPort.try_lock.Goals as goal

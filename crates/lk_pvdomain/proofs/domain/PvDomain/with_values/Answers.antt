@@ -1,5 +1,5 @@
 use Rattle.std.proofs.Common.{ap, Option, Some}
-use Rattle.lk_abs.specs.ListOf.{ListOf}
+use Rattle.lk_names.specs.ListOf.{ListOf}
 use Rattle.lk_domain.specs.Values.{Key}
 use Rattle.lk_domain.proofs.seats.Dealt.{keys_laid}
 use Rattle.lk_pvdomain.specs.PvPlans.{IsPlanOf}

@@ -1,5 +1,5 @@
 use Rattle.std.proofs.Common.{ℕ, ◌<◌, ap, subst, sym}
-use Rattle.lk_abs.specs.declared.holder.Manner.TheVariants.{Spins}
+use Rattle.lk_names.specs.declared.holder.Manner.TheVariants.{Spins}
 use Rattle.lk_domain.specs.Seats.{calls_of}
 use Rattle.lk_ranks.proofs.Ranking.{above_inside, above_more, not_held}
 use Rattle.lk_ranks.proofs.spin.RankedSpin.lock.Goals as goal

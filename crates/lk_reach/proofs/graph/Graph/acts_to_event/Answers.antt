@@ -1,6 +1,6 @@
 use Rattle.std.proofs.Common.{List, subst, sym}
 use Rattle.std.proofs.lemmas.Option.{slice_get_within}
-use Rattle.lk_abs.specs.declared.events.Act.{Act}
+use Rattle.lk_names.specs.declared.events.Act.{Act}
 use Rattle.lk_reach.specs.Told.{IsShortestToEvent}
 use Rattle.lk_reach.proofs.Closed.{Laws}
 use Rattle.lk_reach.proofs.apart.Leading.{never_told, shortest_event}

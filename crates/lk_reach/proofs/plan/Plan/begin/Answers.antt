@@ -1,5 +1,5 @@
 use Rattle.std.proofs.Common.{arith, ◌≡◌, ◌∙◌, ◌++◌, ◌∷◌, [], List, ap, refl, sym, subst}
-use Rattle.lk_abs.specs.declared.events.Act.{Act}
+use Rattle.lk_names.specs.declared.events.Act.{Act}
 use Rattle.lk_law.specs.MachineLaws.{AreInRange}
 use Rattle.lk_rows.specs.Machine.{Machine}
 use Rattle.lk_rows.specs.Programs.{IsLawfulSetup}

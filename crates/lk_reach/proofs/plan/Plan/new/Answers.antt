@@ -1,5 +1,5 @@
 use Rattle.std.proofs.Common.{◌≡◌, ◌∙◌, List, ℕ, length, ap, refl, sym, subst}
-use Rattle.lk_abs.specs.declared.events.Act.{Act}
+use Rattle.lk_names.specs.declared.events.Act.{Act}
 use Rattle.lk_law.specs.MachineLaws.{AreInRange}
 use Rattle.lk_rows.specs.Machine.{Machine, handlers_at}
 use Rattle.lk_rows.specs.Run.{at_rest, machine_after}

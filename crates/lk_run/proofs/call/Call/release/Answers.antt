@@ -1,4 +1,4 @@
-use Rattle.lk_abs.specs.declared.names.LockName.{LockName}
+use Rattle.lk_names.specs.declared.names.LockName.{LockName}
 use Rattle.lk_domain.specs.Calls.{told}
 use Rattle.lk_domain.specs.Plays.{ActsIn}
 use Rattle.lk_domain.specs.Rows.{frees_by}

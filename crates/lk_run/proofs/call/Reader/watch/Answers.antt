@@ -1,5 +1,5 @@
 use Rattle.std.proofs.Common.{ap, refl, eqb, eq-eqb, inr, length, sym, ◌∙◌}
-use Rattle.lk_abs.specs.declared.holder.Manner.TheVariants.{Reads}
+use Rattle.lk_names.specs.declared.holder.Manner.TheVariants.{Reads}
 use Rattle.lk_rows.specs.declared.parts.Pc.TheVariants.{R5}
 use Rattle.lk_rows.specs.declared.setup.Verb.TheVariants.{Read}
 use Rattle.lk_domain.specs.RwRows.{watches_at}

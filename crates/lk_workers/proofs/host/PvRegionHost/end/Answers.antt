@@ -1,6 +1,6 @@
 use Rattle.std.proofs.Common.{map, sym, ap, ◌∙◌, subst}
-use Rattle.lk_abs.specs.Journal.{balances_after}
-use Rattle.lk_abs.specs.ListOf.{ListOf}
+use Rattle.lk_names.specs.Journal.{balances_after}
+use Rattle.lk_names.specs.ListOf.{ListOf}
 use Rattle.lk_domain.specs.Ends.{IsFinal}
 use Rattle.lk_domain.specs.Seats.{ledger_of}
 use Rattle.lk_pvdomain.specs.PvSeats.{AllRest}

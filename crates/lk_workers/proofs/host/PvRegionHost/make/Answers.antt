@@ -1,5 +1,5 @@
 use Rattle.std.proofs.Common.{sym, subst}
-use Rattle.lk_abs.specs.Workload.{workload_of}
+use Rattle.lk_names.specs.Workload.{workload_of}
 use Rattle.lk_guard.specs.Idle.{pv_crew_of}
 use Rattle.lk_pvdomain.specs.declared.domain.PvDomain.{PvDomain}
 use Rattle.lk_workers.specs.Plans.{IsFor}

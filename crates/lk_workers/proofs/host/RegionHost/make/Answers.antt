@@ -1,5 +1,5 @@
 use Rattle.std.proofs.Common.{sym, ap, ◌∙◌, subst}
-use Rattle.lk_abs.specs.Workload.{workload_of}
+use Rattle.lk_names.specs.Workload.{workload_of}
 use Rattle.lk_domain.specs.declared.domain.Domain.{Domain}
 use Rattle.lk_guard.specs.Idle.{crew_of}
 use Rattle.lk_law.specs.Agree.{halts}

@@ -1,5 +1,5 @@
 use Rattle.std.proofs.Common.{length, ap, sym, arith}
-use Rattle.lk_abs.specs.Workload.{jobs_of, workload_of}
+use Rattle.lk_names.specs.Workload.{jobs_of, workload_of}
 use Rattle.lk_guard.specs.Deeds.{reads_in, writes_in}
 use Rattle.lk_workers.proofs.JobCounts.{each_few}
 use Rattle.lk_workers.proofs.Starts.{is_through, jobs_shown}

@@ -2,8 +2,8 @@
 use Rattle.std.specs.Prelude.{ℕ, List, slice_set, length}
 use Rattle.std.specs.List.{refill}
 use Rattle.std.specs.Borrow.{Lends, Fml, RattleType, MutBor, Array}
-use Rattle.lk_abs.specs.ListOf.{ListOf}
-use Rattle.lk_abs.specs.contracts.list.List.{the_row}
+use Rattle.lk_names.specs.ListOf.{ListOf}
+use Rattle.lk_names.specs.contracts.list.List.{the_row}
 
 -- the list with this item at the place
 abbrev pub with_item : {T : Type 0} → ListOf T → ℕ → T → ListOf T

@@ -1,6 +1,6 @@
 // Who holds a lock, and how.
 ghost use Rattle.std.specs.Prelude.{◌≡◌};
-ghost use Rattle.lk_abs.specs.History.{is_writer};
+ghost use Rattle.lk_names.specs.History.{is_writer};
 
 use crate::names::Waiter;
 
@@ -17,7 +17,7 @@ pub enum Manner {
 
 impl Manner {
     /// Whether the manner admits no other holder.
-    pub(crate) fn is_writer(self) -> bool
+    pub fn is_writer(self) -> bool
         ensures { result ≡ is_writer self }
     {
         !matches!(self, Manner::Reads)

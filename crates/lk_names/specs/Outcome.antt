@@ -1,11 +1,11 @@
 -- What may come of a job file: a journal, the records of the reads, and the closing balances.
 use Rattle.std.specs.Prelude.{◌≡◌, ◌<◌, ◌≤◌, ◌+◌, ◌==◌, ℕ, false, List, [], ◌∷◌, ◌++◌, Some, filter, length, map, take, slice_get, All, if◌then◌else◌}
-use Rattle.lk_abs.specs.declared.ledger.Job.{Job}
-use Rattle.lk_abs.specs.declared.ledger.Entry.{Entry}
-use Rattle.lk_abs.specs.declared.ledger.Seen.{Seen}
-use Rattle.lk_abs.specs.Jobs.{reply_to}
-use Rattle.lk_abs.specs.Journal.{is_write, balances_after, Replays}
-use Rattle.lk_abs.specs.Workload.{Workload, jobs_of}
+use Rattle.lk_names.specs.declared.ledger.Job.{Job}
+use Rattle.lk_names.specs.declared.ledger.Entry.{Entry}
+use Rattle.lk_names.specs.declared.ledger.Seen.{Seen}
+use Rattle.lk_names.specs.Jobs.{reply_to}
+use Rattle.lk_names.specs.Journal.{is_write, balances_after, Replays}
+use Rattle.lk_names.specs.Workload.{Workload, jobs_of}
 
 -- the entries of a worker, in the order of the journal
 abbrev pub entries_of : ℕ → List Entry → List Entry

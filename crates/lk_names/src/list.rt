@@ -17,7 +17,7 @@ pub struct List<T> {
 
 impl<T> Model for List<T> {
     ghost use Rattle.std.specs.Prelude.{◌≤◌, vec_capacity};
-    ghost use Rattle.lk_abs.specs.ListOf.{ListOf};
+    ghost use Rattle.lk_names.specs.ListOf.{ListOf};
 
     ghost Value = { ListOf T };
 
@@ -27,7 +27,7 @@ impl<T> Model for List<T> {
 }
 
 impl<T> List<T> {
-    ghost use Rattle.lk_abs.specs.ListLends.{LendsItem, LendsItems};
+    ghost use Rattle.lk_names.specs.ListLends.{LendsItem, LendsItems};
 
     /// An empty list with room for so many items.
     ///

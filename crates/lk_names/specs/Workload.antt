@@ -1,16 +1,16 @@
 -- What a job file says: the lock, the workers, the accounts, and the jobs.
 use Rattle.std.specs.Prelude.{◌≤◌, ◌<◌, ◌≡◌, ℕ, List, [], All, length, map, slice_index_or}
 use Rattle.std.specs.List.{sum, sum_by}
-use Rattle.lk_abs.specs.declared.names.Format.{Format}
-use Rattle.lk_abs.specs.declared.names.Kind.{Kind}
-use Rattle.lk_abs.specs.declared.names.Kind.TheVariants.{Spin}
-use Rattle.lk_abs.specs.declared.names.Mode.{Mode}
-use Rattle.lk_abs.specs.declared.names.Mode.TheVariants.{Pv}
-use Rattle.lk_abs.specs.declared.ledger.Job.{Job}
-use Rattle.lk_abs.specs.declared.ledger.Job.TheVariants as job
-use Rattle.lk_abs.specs.Jobs.{IsAmong, full}
-use Rattle.lk_abs.specs.declared.limits.TheConstants.{MAX_SOCKET, MAX_TURNS, MAX_ACCOUNTS, MAX_JOBS, MAX_WORKERS}
-use Rattle.lk_abs.specs.declared.job_file.JobFile.{JobFile}
+use Rattle.lk_names.specs.declared.names.Format.{Format}
+use Rattle.lk_names.specs.declared.names.Kind.{Kind}
+use Rattle.lk_names.specs.declared.names.Kind.TheVariants.{Spin}
+use Rattle.lk_names.specs.declared.names.Mode.{Mode}
+use Rattle.lk_names.specs.declared.names.Mode.TheVariants.{Pv}
+use Rattle.lk_names.specs.declared.ledger.Job.{Job}
+use Rattle.lk_names.specs.declared.ledger.Job.TheVariants as job
+use Rattle.lk_names.specs.Jobs.{IsAmong, full}
+use Rattle.lk_names.specs.declared.limits.TheConstants.{MAX_SOCKET, MAX_TURNS, MAX_ACCOUNTS, MAX_JOBS, MAX_WORKERS}
+use Rattle.lk_names.specs.declared.job_file.JobFile.{JobFile}
 
 -- the format, the mode of the lock and its kind, the socket of each worker, the threshold, the
 -- opening balance of each account, and the jobs of each worker

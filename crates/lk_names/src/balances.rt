@@ -1,8 +1,8 @@
 // What a job does to the balances of a ledger.
 ghost use Rattle.std.specs.Prelude.{◌≡◌, ◌≤◌, ◌<◌, ◌+◌, length, slice_index};
 ghost use Rattle.std.specs.List.{sum};
-ghost use Rattle.lk_abs.specs.declared.ledger.Job.TheVariants as job;
-ghost use Rattle.lk_abs.specs.Jobs.{full, given, taken, after_job, reply_to, IsAmong};
+ghost use Rattle.lk_names.specs.declared.ledger.Job.TheVariants as job;
+ghost use Rattle.lk_names.specs.Jobs.{full, given, taken, after_job, reply_to, IsAmong};
 
 use crate::ledger::{Job, Reply};
 use crate::list::List;

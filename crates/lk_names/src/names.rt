@@ -1,6 +1,6 @@
 // Names of modes, locks and waiters.
 ghost use Rattle.std.specs.Prelude.{◌≡◌, ◌^◌, ◌<◌};
-ghost use Rattle.lk_abs.specs.Names.{place_of, lock_at};
+ghost use Rattle.lk_names.specs.Names.{place_of, lock_at};
 
 use crate::list::List;
 
@@ -63,14 +63,14 @@ pub struct LockName {
 impl LockName {
     /// The lock's number among all, of which each declared lock has two, its own and its wait
     /// lock's.
-    pub(crate) fn place(self) -> usize
+    pub fn place(self) -> usize
         ensures { result ≡ place_of self }
     {
         self.index as usize * 2 + usize::from(self.wait)
     }
 
     /// The lock of that number.
-    pub(crate) fn at(place: usize) -> LockName
+    pub fn at(place: usize) -> LockName
         requires { place < 2 ^ 32 }
         ensures { result ≡ lock_at place }
     {

@@ -1,10 +1,10 @@
 -- What the events so far say of halts and kicks, in the paravirtual lock.
 use Rattle.std.specs.Prelude.{◌≡◌, ℕ, ◌+◌, ◌<◌, ◌==◌, ◌⊎◌, Some, Bool, true, false, List, [], ◌∷◌, if◌then◌else◌}
-use Rattle.lk_abs.specs.Names.{same_waiter}
-use Rattle.lk_abs.specs.declared.names.Waiter.{Waiter}
-use Rattle.lk_abs.specs.declared.events.Event.{Event}
-use Rattle.lk_abs.specs.declared.events.What.{What}
-use Rattle.lk_abs.specs.declared.events.What.TheVariants.{Release, Kick, Halt, Wake, Int, Nudge}
+use Rattle.lk_names.specs.Names.{same_waiter}
+use Rattle.lk_names.specs.declared.names.Waiter.{Waiter}
+use Rattle.lk_names.specs.declared.events.Event.{Event}
+use Rattle.lk_names.specs.declared.events.What.{What}
+use Rattle.lk_names.specs.declared.events.What.TheVariants.{Release, Kick, Halt, Wake, Int, Nudge}
 
 -- the waiter sleeps after the event, where it slept before it or not
 abbrev pub sleeps_after : Waiter → Bool → Event → Bool

@@ -1,8 +1,8 @@
 -- Tests of names, and the places of locks.
 use Rattle.std.specs.Prelude.{ℕ, ◌+◌, ◌*◌, ◌/◌, ◌%◌, Bool, true, false, not, ◌==◌, ◌&&◌, List, [], ◌∷◌, if◌then◌else◌}
 use Rattle.std.proofs.Common.{zero, suc}
-use Rattle.lk_abs.specs.declared.names.Waiter.{Waiter}
-use Rattle.lk_abs.specs.declared.names.LockName.{LockName}
+use Rattle.lk_names.specs.declared.names.Waiter.{Waiter}
+use Rattle.lk_names.specs.declared.names.LockName.{LockName}
 
 -- whether both hold, or neither
 abbrev pub same_bool : Bool → Bool → Bool

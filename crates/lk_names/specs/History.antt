@@ -2,17 +2,17 @@
 -- words, nodes or registers. The two queues are those of Dice and Kogan's lock; the other families use the first alone.
 use Rattle.std.specs.Prelude.{ℕ, Option, Some, None, Bool, true, false, List, [], ◌∷◌, ◌++◌, take, drop, map, replicate, ◌&&◌, if◌then◌else◌}
 use Rattle.std.proofs.Common.{suc}
-use Rattle.lk_abs.specs.Names.{same_lock, same_waiter}
-use Rattle.lk_abs.specs.declared.holder.Manner.{Manner}
-use Rattle.lk_abs.specs.declared.holder.Manner.TheVariants.{Spins, Reads, Writes}
-use Rattle.lk_abs.specs.declared.holder.Holder.{Holder}
-use Rattle.lk_abs.specs.declared.names.Waiter.{Waiter}
-use Rattle.lk_abs.specs.declared.names.LockName.{LockName}
-use Rattle.lk_abs.specs.declared.events.Event.{Event}
-use Rattle.lk_abs.specs.declared.events.How.{How}
-use Rattle.lk_abs.specs.declared.events.How.TheVariants.{Sole}
-use Rattle.lk_abs.specs.declared.events.What.{What}
-use Rattle.lk_abs.specs.declared.events.What.TheVariants.{Take, Miss, Release, Kick, Arrive, Pass, Flush, Promote, Leave, Halt, Wake, Int, Nudge, RTake, RRelease, WTake, WRelease}
+use Rattle.lk_names.specs.Names.{same_lock, same_waiter}
+use Rattle.lk_names.specs.declared.holder.Manner.{Manner}
+use Rattle.lk_names.specs.declared.holder.Manner.TheVariants.{Spins, Reads, Writes}
+use Rattle.lk_names.specs.declared.holder.Holder.{Holder}
+use Rattle.lk_names.specs.declared.names.Waiter.{Waiter}
+use Rattle.lk_names.specs.declared.names.LockName.{LockName}
+use Rattle.lk_names.specs.declared.events.Event.{Event}
+use Rattle.lk_names.specs.declared.events.How.{How}
+use Rattle.lk_names.specs.declared.events.How.TheVariants.{Head, Sole}
+use Rattle.lk_names.specs.declared.events.What.{What}
+use Rattle.lk_names.specs.declared.events.What.TheVariants.{Take, Miss, Release, Kick, Arrive, Pass, Flush, Promote, Leave, Halt, Wake, Int, Nudge, RTake, RRelease, WTake, WRelease}
 
 -- the manner admits no other holder
 abbrev pub is_writer : Manner → Bool
@@ -25,6 +25,12 @@ same_manner Spins Spins = true
 same_manner Reads Reads = true
 same_manner Writes Writes = true
 same_manner _ _ = false
+
+-- whether a take by this way is one by the head of the queue
+abbrev pub is_by_front : How → Bool
+is_by_front Head = true
+is_by_front Sole = true
+is_by_front how = false
 
 -- the holders, the earliest first; the main queue, its head first; the secondary queue; and for each waiter of the latter the
 -- handoffs since its move

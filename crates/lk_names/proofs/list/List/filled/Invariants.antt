@@ -1,5 +1,5 @@
 use Rattle.std.proofs.Common.{◌≡◌, replicate}
-use Rattle.lk_abs.proofs.list.List.filled.Given as goal
+use Rattle.lk_names.proofs.list.List.filled.Given as goal
 
 abbrev pub invariant-loop : goal.invariant-loop
 invariant-loop g l = record {

@@ -2,10 +2,10 @@
 -- told on by that event.
 use Rattle.std.proofs.Common.{◌≡◌, ◌⊎◌, List, [], ◌∷◌, ◌++◌, refl, sym, ap, subst, ◌∙◌, inl, inr, append_assoc}
 use Rattle.std.proofs.lemmas.List.{same_from_push, append-nil}
-use Rattle.lk_abs.specs.History.{LockHistory, no_history, told, told_all, history_of}
-use Rattle.lk_abs.specs.Lawful.{AtEachMoment, OfEachEvent}
-use Rattle.lk_abs.specs.declared.names.LockName.{LockName}
-use Rattle.lk_abs.specs.declared.events.Event.{Event}
+use Rattle.lk_names.specs.History.{LockHistory, no_history, told, told_all, history_of}
+use Rattle.lk_names.specs.Lawful.{AtEachMoment, OfEachEvent}
+use Rattle.lk_names.specs.declared.names.LockName.{LockName}
+use Rattle.lk_names.specs.declared.events.Event.{Event}
 
 -- the list has a last item
 pub record HasLast {X : Type 0} (xs : List X) : Type 0 where

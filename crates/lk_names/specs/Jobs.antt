@@ -1,10 +1,10 @@
 -- What the jobs of a ledger make of the balances, and what they answer.
 use Rattle.std.specs.Prelude.{ℕ, ◌+◌, ◌-◌, ◌^◌, ◌<◌, Bool, List, nat_lt, slice_index, slice_set, if◌then◌else◌}
 use Rattle.std.specs.List.{sum}
-use Rattle.lk_abs.specs.declared.ledger.Job.{Job}
-use Rattle.lk_abs.specs.declared.ledger.Job.TheVariants.{Move, Add, Sum, Get}
-use Rattle.lk_abs.specs.declared.ledger.Reply.{Reply}
-use Rattle.lk_abs.specs.declared.ledger.Reply.TheVariants.{Done, Short, Full, Amount}
+use Rattle.lk_names.specs.declared.ledger.Job.{Job}
+use Rattle.lk_names.specs.declared.ledger.Job.TheVariants.{Move, Add, Sum, Get}
+use Rattle.lk_names.specs.declared.ledger.Reply.{Reply}
+use Rattle.lk_names.specs.declared.ledger.Reply.TheVariants.{Done, Short, Full, Amount}
 
 -- the limit that no sum of balances reaches
 abbrev pub full : ℕ

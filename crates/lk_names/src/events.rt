@@ -1,7 +1,6 @@
 // What happens in a step, and what may be done to a machine.
 ghost use Rattle.std.specs.Prelude.{◌≡◌};
-ghost use Rattle.lk_abs.specs.History.{lock_of};
-ghost use Rattle.lk_abs.specs.Breaches.{is_by_front};
+ghost use Rattle.lk_names.specs.History.{lock_of, is_by_front};
 
 use crate::list::List;
 use crate::names::{LockName, Waiter};
@@ -31,7 +30,7 @@ pub enum How {
 
 impl How {
     /// Whether only the queue head acquires so.
-    pub(crate) fn is_by_front(self) -> bool
+    pub fn is_by_front(self) -> bool
         ensures { result ≡ is_by_front self }
     {
         matches!(self, How::Head | How::Sole)

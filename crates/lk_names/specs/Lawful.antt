@@ -1,22 +1,22 @@
 -- When a history is lawful. Each law speaks of every prefix of the history, and so of what stands after every act.
 use Rattle.std.specs.Prelude.{◌≡◌, ℕ, ◌≤◌, ◌==◌, ◌⊎◌, ◌||◌, nat_lt, Some, Bool, true, false, List, [], ◌∷◌, ◌++◌, not, length, if◌then◌else◌, slice_get, slice_index_or, count_by, All, Contains}
 use Rattle.std.proofs.Common.{suc}
-use Rattle.lk_abs.specs.History.{LockHistory, is_writer, history_of, lock_of}
-use Rattle.lk_abs.specs.declared.holder.Manner.{Manner}
-use Rattle.lk_abs.specs.declared.holder.Manner.TheVariants.{Spins, Reads, Writes}
-use Rattle.lk_abs.specs.declared.holder.Holder.{Holder}
-use Rattle.lk_abs.specs.Kicks.{sleeps, IsOwed}
-use Rattle.lk_abs.specs.declared.names.Format.{Format}
-use Rattle.lk_abs.specs.declared.names.Format.TheVariants.{One, Two}
-use Rattle.lk_abs.specs.declared.names.Mode.{Mode}
-use Rattle.lk_abs.specs.declared.names.Mode.TheVariants.{Cna, Pv}
-use Rattle.lk_abs.specs.declared.names.Waiter.{Waiter}
-use Rattle.lk_abs.specs.declared.names.LockName.{LockName}
-use Rattle.lk_abs.specs.declared.events.Event.{Event}
-use Rattle.lk_abs.specs.declared.events.How.{How}
-use Rattle.lk_abs.specs.declared.events.How.TheVariants.{Head, Sole}
-use Rattle.lk_abs.specs.declared.events.What.{What}
-use Rattle.lk_abs.specs.declared.events.What.TheVariants.{Take, Release, Arrive, Pass, Flush, Promote, Leave, RTake, RRelease, WTake, WRelease}
+use Rattle.lk_names.specs.History.{LockHistory, is_writer, history_of, lock_of}
+use Rattle.lk_names.specs.declared.holder.Manner.{Manner}
+use Rattle.lk_names.specs.declared.holder.Manner.TheVariants.{Spins, Reads, Writes}
+use Rattle.lk_names.specs.declared.holder.Holder.{Holder}
+use Rattle.lk_names.specs.Kicks.{sleeps, IsOwed}
+use Rattle.lk_names.specs.declared.names.Format.{Format}
+use Rattle.lk_names.specs.declared.names.Format.TheVariants.{One, Two}
+use Rattle.lk_names.specs.declared.names.Mode.{Mode}
+use Rattle.lk_names.specs.declared.names.Mode.TheVariants.{Cna, Pv}
+use Rattle.lk_names.specs.declared.names.Waiter.{Waiter}
+use Rattle.lk_names.specs.declared.names.LockName.{LockName}
+use Rattle.lk_names.specs.declared.events.Event.{Event}
+use Rattle.lk_names.specs.declared.events.How.{How}
+use Rattle.lk_names.specs.declared.events.How.TheVariants.{Head, Sole}
+use Rattle.lk_names.specs.declared.events.What.{What}
+use Rattle.lk_names.specs.declared.events.What.TheVariants.{Take, Release, Arrive, Pass, Flush, Promote, Leave, RTake, RRelease, WTake, WRelease}
 
 -- what the laws read of a setup: the format, the lock family, the socket of each processor, and how
 -- many handoffs may pass a moved waiter by

@@ -1,0 +1,11 @@
+pub mod ListOf
+pub mod ListLends
+pub mod Names
+pub mod History
+pub mod Kicks
+pub mod Lawful
+pub mod Lists
+pub mod Jobs
+pub mod Journal
+pub mod Workload
+pub mod Outcome
