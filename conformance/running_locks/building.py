@@ -30,7 +30,7 @@ PV_ROWS = (
     ("halting.rt", "    if moves::take_free(", "seat", "F1"),
     ("halting.rt", "    if moves::look_once(", "seat", "T1"),
     ("halting.rt", "    if moves::take_once(", "seat", "T2"),
-    ("halting.rt", "    let met = tries::try_release(seat, domain, lock, HELD);\n    if met == HELD {\n        return;\n", "seat", "U2"),
+    ("halting.rt", "    tries::try_release(seat, domain, lock, HELD)\n", "seat", "U2"),
     ("freeing.rt", "    let pair = hash::take_out(", "seat", "U3"),
     ("freeing.rt", "    words::go_on(seat, domain, lock, WordUse::Drops);", "seat", "U4"),
     ("freeing.rt", "    kicks::kick(", "seat", "U5"),

@@ -43,6 +43,10 @@ module _ (d : Domain) (old : Cpu) (was : IsReady d old) (on : halts d.plan.mode 
         fresh = r.fresh;
       }
 
+  -- by a number that is its own
+  pub named : (n : ℕ) → n ≡ old.number → Rests d (first_node n) old.seat
+  named n is = subst (λ (m : ℕ). Rests d (first_node m) old.seat) (sym is) rests
+
   pub may_free : (l : ℕ) (before : Cpu) → l < locks_of d.plan → IsHolding l Spins before old
       → MayFree d l (first_node old.number) old.seat
   may_free l before low has =

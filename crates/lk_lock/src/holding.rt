@@ -11,7 +11,23 @@ ghost use Rattle.lk_rows.specs.declared.setup.Verb.TheVariants.{Lock, Try};
 use lk_domain::{Cpu, Domain, LockId};
 use lk_pvdomain::halting;
 use lk_run::{NoIrq, lock, try_lock, unlock};
+use lk_word::HELD;
 use std::sync::Wait;
+
+// Takes the lock, whose waiters halt.
+#[inline(always)]
+pub(crate) fn take_halting<R: Wait>(cpu: &mut Cpu, rt: &R, domain: &Domain, id: LockId)
+    requires ready { IsReady domain.now cpu.old }
+    requires on { halts domain.now.plan.mode ≡ true }
+    requires lock { IsOfKind domain.now.plan Spin id.index }
+    requires free { holds_in (holds_of cpu.old) id.index ≡ false }
+    ensures { TakesLock domain.now Lock id.index cpu.old cpu.new }
+{
+    let number = cpu.number();
+    if !halting::take(&mut cpu.seat, domain, id.index) {
+        halting::contend(&mut cpu.seat, rt, domain, id.index, number);
+    }
+}
 
 // Takes the lock.
 #[inline(always)]
@@ -22,8 +38,7 @@ pub(crate) fn take<R: Wait>(cpu: &mut Cpu, rt: &R, domain: &Domain, id: LockId)
     ensures { TakesLock domain.now Lock id.index cpu.old cpu.new }
 {
     if domain.halts() {
-        let number = cpu.number();
-        halting::lock(&mut cpu.seat, rt, domain, id.index, number);
+        take_halting(cpu, rt, domain, id);
     } else {
         lock(cpu, rt, domain, id, &mut NoIrq);
     }
@@ -45,6 +60,21 @@ pub(crate) fn try_take(cpu: &mut Cpu, domain: &Domain, id: LockId) -> bool
     }
 }
 
+// Frees the lock, which was taken last, and whose waiters halt.
+#[inline(always)]
+pub(crate) fn free_halting<R: Wait>(cpu: &mut Cpu, rt: &R, domain: &Domain, id: LockId)
+    requires ready { IsReady domain.now cpu.old }
+    requires on { halts domain.now.plan.mode ≡ true }
+    requires lock { IsOfKind domain.now.plan Spin id.index }
+    requires holding { (before : Cpu) × IsHolding id.index Spins before cpu.old }
+    ensures { FreesLock domain.now id.index cpu.old cpu.new }
+{
+    let met = halting::free(&mut cpu.seat, domain, id.index);
+    if met != HELD {
+        halting::release(&mut cpu.seat, rt, domain, id.index, met);
+    }
+}
+
 // Frees the lock, which was taken last.
 #[inline(always)]
 pub(crate) fn free<R: Wait>(cpu: &mut Cpu, rt: &R, domain: &Domain, id: LockId)
@@ -54,7 +84,7 @@ pub(crate) fn free<R: Wait>(cpu: &mut Cpu, rt: &R, domain: &Domain, id: LockId)
     ensures { FreesLock domain.now id.index cpu.old cpu.new }
 {
     if domain.halts() {
-        halting::unlock(&mut cpu.seat, rt, domain, id.index);
+        free_halting(cpu, rt, domain, id);
     } else {
         free_now(cpu, domain, id);
     }

@@ -14,6 +14,7 @@ use crate::domain::{PvCpu, PvDomain};
 use crate::freeing::PvRelease;
 use crate::halting;
 use lk_domain::LockId;
+use lk_word::HELD;
 use std::sync::Wait;
 
 /// Acquires the lock, and returns once the processor holds it. A waiter spins for at most as many
@@ -33,8 +34,10 @@ pub fn pv_lock<R: Wait>(cpu: &mut PvCpu, rt: &R, domain: &PvDomain, lock: LockId
     ensures same { IsSame cpu.old cpu.new }
     ensures taken { HasTaken domain.now lock.index cpu.old cpu.new }
 {
-    let number = cpu.number();
-    halting::lock(&mut cpu.seat, rt, &domain.domain, lock.index, number);
+    if !halting::take(&mut cpu.seat, &domain.domain, lock.index) {
+        let number = cpu.number();
+        halting::contend(&mut cpu.seat, rt, &domain.domain, lock.index, number);
+    }
 }
 
 /// Releases a lock that the processor holds. If the locked byte is slow (Linux's `_Q_SLOW_VAL`), it
@@ -55,7 +58,10 @@ pub fn pv_unlock<R: Wait>(cpu: &mut PvCpu, rt: &R, domain: &PvDomain, lock: Lock
     ensures others { (calls_of cpu.new).holds
         ≡ without (lock_name lock.index) (calls_of cpu.old).holds }
 {
-    halting::unlock(&mut cpu.seat, rt, &domain.domain, lock.index);
+    let met = halting::free(&mut cpu.seat, &domain.domain, lock.index);
+    if met != HELD {
+        halting::release(&mut cpu.seat, rt, &domain.domain, lock.index, met);
+    }
 }
 
 /// Tries to release a lock that the processor holds, without waiting, and returns which processor it

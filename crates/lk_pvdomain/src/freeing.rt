@@ -31,12 +31,12 @@ pub enum PvRelease {
     Still,
 }
 
-// The row U2 where a first try met another word than that of a lock for which nobody waits, and U3 to
-// U5 where the byte is slow. It is a function of its own, to keep the code of an uncontended release
-// short.
+/// Goes on with a release whose first try met another word than that of a lock for which nobody waits:
+/// the row U2, tried until it is made, or U3 to U5 where the byte is slow. It is a function of its own,
+/// to keep the code of an uncontended release short.
 #[cold]
 #[inline(never)]
-pub(crate) fn release<R: Wait>(seat: &mut Right, rt: &R, domain: &Domain, lock: u32, met: u64)
+pub fn release<R: Wait>(seat: &mut Right, rt: &R, domain: &Domain, lock: u32, met: u64)
     requires other { met ≢ 1 }
     requires tried { (own : NodeName) × (s : Start) × HasTried domain.now lock own s met seat.old }
     ensures freed { (own : NodeName) (s : Start) → HasTried domain.now lock own s met seat.old

@@ -1,17 +1,22 @@
 //! The calls by a seat, whose processor is number `cpu` of a domain that halts. It must be in no call.
 //! The calls by a [`PvCpu`](crate::PvCpu) say what each of them does.
+//!
+//! A call of `lock` is two functions, and a release is two. The first makes one operation, and never
+//! waits. The second goes on where that was not enough, and may wait. So an uncontended turn calls no
+//! function that may wait: a proved program looks at a byte behind each call of one.
 ghost use Rattle.std.specs.Prelude.{◌≡◌, ◌<◌, false, true};
 ghost use Rattle.lk_rows.specs.declared.parts.Pc.TheVariants.{G1};
 ghost use Rattle.lk_rows.specs.declared.setup.Verb.TheVariants.{Lock, Try, Unlock};
 ghost use Rattle.lk_domain.specs.Calls.{Frees, Unchanged, holds_in};
 ghost use Rattle.lk_domain.specs.Paths.{Any};
 ghost use Rattle.lk_domain.specs.Plans.{locks_of};
-ghost use Rattle.lk_pvdomain.specs.PvCalls.{IsAsItWas, MayFree};
+ghost use Rattle.lk_pvdomain.specs.PvCalls.{HasTried, IsAsItWas, MayFree};
 ghost use Rattle.lk_pvdomain.specs.PvPaths.{At, Ended, Rests, Start, Took, first_node, first_of};
 ghost use Rattle.lk_pvdomain.specs.PvReleases.{has_freed, kicked_in, whom};
 ghost use Rattle.lk_pvdomain.specs.PvRests.{Comes};
 
 use crate::call::Queued;
+pub use crate::freeing::release;
 use crate::freeing::{self, PvRelease};
 use crate::rest::PvRest;
 use crate::tries;
@@ -19,9 +24,10 @@ use lk_domain::{Domain, Right, moves};
 use lk_word::{HELD, NodeName};
 use std::sync::Wait;
 
-// The row F1. Returns whether it acquired the lock.
+/// Begins a call of `lock`, by the row F1. Returns whether the processor holds the lock. If not, it
+/// stands at the row G1, and [`contend`] goes on ([`pv_lock`](crate::pv_lock)).
 #[inline]
-fn fast(seat: &mut Right, domain: &Domain, lock: u32) -> bool
+pub fn take(seat: &mut Right, domain: &Domain, lock: u32) -> bool
     requires rests { (own : NodeName) × Rests domain.now own seat.old }
     requires lock { lock < locks_of domain.now.plan }
     requires free { holds_in seat.old.me.0.calls.holds lock ≡ false }
@@ -36,32 +42,18 @@ fn fast(seat: &mut Right, domain: &Domain, lock: u32) -> bool
     false
 }
 
-// From G1, until it holds the lock. It is a function of its own, to keep the code of an uncontended
-// call short. So it builds the value of the call, and `lock` does not.
+/// Goes on with a call of `lock` from the row G1, and returns once the processor holds the lock. It is
+/// out of the way of a call that takes a free lock, which builds no `Queued`.
 #[cold]
 #[inline(never)]
-fn contend<R: Wait>(seat: &mut Right, rt: &R, domain: &Domain, lock: u32, own: NodeName)
-    requires at { (s : Start) × At domain.now Lock lock own s G1 Any seat.old }
-    ensures took { (s : Start) → At domain.now Lock lock own s G1 Any seat.old
-        → Took domain.now Lock lock own s seat.new }
+pub fn contend<R: Wait>(seat: &mut Right, rt: &R, domain: &Domain, lock: u32, cpu: u32)
+    requires at { (s : Start) × At domain.now Lock lock (first_node cpu) s G1 Any seat.old }
+    ensures took { (s : Start) → At domain.now Lock lock (first_node cpu) s G1 Any seat.old
+        → Took domain.now Lock lock (first_node cpu) s seat.new }
 {
+    let own = NodeName { cpu, index: 0 };
     let call = Queued { domain, lock, own };
     call.wait_on(seat, rt);
-}
-
-/// Acquires the lock, and returns once the processor holds it ([`pv_lock`](crate::pv_lock)).
-#[inline]
-pub fn lock<R: Wait>(seat: &mut Right, rt: &R, domain: &Domain, lock: u32, cpu: u32)
-    requires rests { Rests domain.now (first_node cpu) seat.old }
-    requires lock { lock < locks_of domain.now.plan }
-    requires free { holds_in seat.old.me.0.calls.holds lock ≡ false }
-    ensures took { Took domain.now Lock lock (first_node cpu) (first_of Lock lock seat.old) seat.new }
-{
-    if fast(seat, domain, lock) {
-        return;
-    }
-    let own = NodeName { cpu, index: 0 };
-    contend(seat, rt, domain, lock, own);
 }
 
 /// Tries once to acquire the lock, by the rows T1 and T2. Returns whether it did
@@ -84,18 +76,17 @@ pub fn try_lock(seat: &mut Right, domain: &Domain, lock: u32, cpu: u32) -> bool
     false
 }
 
-/// Releases a lock that the processor holds ([`pv_unlock`](crate::pv_unlock)).
+/// Begins a release, by one try of the row U2. Returns the word that it met. If that is [`HELD`], the
+/// lock is free. If not, [`release`] goes on ([`pv_unlock`](crate::pv_unlock)).
 #[inline]
-pub fn unlock<R: Wait>(seat: &mut Right, rt: &R, domain: &Domain, lock: u32)
+pub fn free(seat: &mut Right, domain: &Domain, lock: u32) -> u64
     requires may { (own : NodeName) × MayFree domain.now lock own seat.old }
-    ensures freed { (own : NodeName) → Rests domain.now own seat.old
+    ensures freed { result ≡ 1 → (own : NodeName) → Rests domain.now own seat.old
         → Ended domain.now Unlock lock own (first_of Unlock lock seat.old) Frees seat.new }
+    ensures tried { (own : NodeName) → Rests domain.now own seat.old
+        → HasTried domain.now lock own (first_of Unlock lock seat.old) result seat.new }
 {
-    let met = tries::try_release(seat, domain, lock, HELD);
-    if met == HELD {
-        return;
-    }
-    freeing::release(seat, rt, domain, lock, met);
+    tries::try_release(seat, domain, lock, HELD)
 }
 
 /// Tries to release a lock that the processor holds, without waiting
@@ -137,7 +128,7 @@ pub(crate) fn begin(seat: &mut Right, domain: &Domain, lock: u32, cpu: u32) -> O
     ensures comes { Comes domain.now lock (first_node cpu) result (first_of Lock lock seat.old)
         seat.new }
 {
-    if fast(seat, domain, lock) {
+    if take(seat, domain, lock) {
         return None;
     }
     let own = NodeName { cpu, index: 0 };

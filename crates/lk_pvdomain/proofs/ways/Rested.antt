@@ -1,12 +1,14 @@
 -- What a turn leaves as it was, and what is known where it leads.
-use Rattle.std.proofs.Common.{◌≡◌, ◌<◌, ℕ, Option, Some, None, refl, sym, ap, subst, ◌∙◌}
+use Rattle.std.proofs.Common.{◌≡◌, ◌<◌, ℕ, Bool, true, false, Option, Some, None, refl, sym, ap, subst, ◌∙◌}
 use Rattle.atomic_table.specs.declared.shared.Seat.{Seat}
 use Rattle.lk_word.specs.declared.spin_word.NodeName.{NodeName}
 use Rattle.lk_rows.specs.declared.parts.Frame.{Frame}
 use Rattle.lk_rows.specs.declared.parts.Pc.{Pc}
+use Rattle.lk_rows.specs.declared.parts.Pc.TheVariants.{G1}
 use Rattle.lk_rows.specs.declared.setup.Verb.TheVariants.{Lock}
 use Rattle.lk_domain.specs.Keeps.{Slot}
 use Rattle.lk_domain.specs.Ledgers.{Ledger}
+use Rattle.lk_domain.specs.Paths.{Any}
 use Rattle.lk_domain.specs.Plans.{locks_of}
 use Rattle.lk_domain.specs.declared.domain.LockId.{LockId}
 use Rattle.lk_domain.specs.declared.domain.Domain.{Domain}
@@ -17,7 +19,7 @@ use Rattle.lk_pvdomain.specs.declared.rest.PvRest.{PvRest}
 use Rattle.lk_pvdomain.specs.declared.rest.PvRest.TheVariants as rest
 use Rattle.lk_pvdomain.specs.declared.waiter.PvWaiter.{PvWaiter}
 use Rattle.lk_pvdomain.specs.PvCalls.{own_node}
-use Rattle.lk_pvdomain.specs.PvPaths.{Start, AtOn, HaltedOn, first_of}
+use Rattle.lk_pvdomain.specs.PvPaths.{Start, At, AtOn, HaltedOn, Took, first_of}
 use Rattle.lk_pvdomain.specs.PvRests.{Rests, Comes, is_asleep, is_asleep_at}
 use Rattle.lk_domain.specs.Seats.{IsSame}
 use Rattle.lk_pvdomain.specs.PvTurns.{Waits, waiter_at}
@@ -66,6 +68,11 @@ module _ (d : Domain) (l : ℕ) (own : NodeName) (s : Start) (a : Seat Slot View
         out = ap (λ (g : Ledger). g.out) t.ledger ∙ out_taken s.ledger l a.me.0.calls.last;
       }
   since_comes (Some r) w = since_rests r w
+
+  -- its first row leads there, whether it takes the lock or not
+  pub since_take : (b : Bool) → (b ≡ true → Took d Lock l own s a) → (b ≡ false → At d Lock l own s G1 Any a) → IsSince s a
+  since_take true took goes = since_comes None (took refl)
+  since_take false took goes = at_row (goes refl)
 
   -- whether the processor has halted there
   asleep_rests : (r : PvRest) → Rests d l own r s a → a.me.0.calls.halted ≡ is_asleep r

@@ -6,7 +6,7 @@ use Rattle.lk_domain.specs.Calls.{Running}
 use Rattle.std.proofs.Common.{List}
 use Rattle.lk_domain.proofs.Seating.{table_of}
 use Rattle.lk_pvdomain.proofs.ways.Arrives.{first_acts, is_spin, f1_takes, f1_goes}
-use Rattle.lk_pvdomain.proofs.halting.fast.Goals as goal
+use Rattle.lk_pvdomain.proofs.halting.take.Goals as goal
 
 pub take_free-requires : goal.take_free-requires
 take_free-requires c =
