@@ -8,10 +8,12 @@ pub mod turns
 pub mod Turned
 pub mod Outs
 pub mod Freed
+pub mod Holds
 pub mod Paths
 pub mod Ways
 pub mod journals
 pub mod Seating
+pub mod FreeTurns
 pub mod Crossing
 pub mod queue
 pub mod rw

@@ -12,9 +12,9 @@ use Rattle.lk_word.specs.declared.spin_word.Layout.{Layout}
 use Rattle.lk_word.specs.SpinWord.{packed}
 use Rattle.lk_rows.specs.declared.parts.Frame.{Frame}
 use Rattle.lk_rows.specs.declared.parts.Pc.{Pc}
-use Rattle.lk_rows.specs.declared.parts.Pc.TheVariants.{T1, T2, U1}
+use Rattle.lk_rows.specs.declared.parts.Pc.TheVariants.{F1, T1, T2, U1}
 use Rattle.lk_rows.specs.declared.setup.Verb.{Verb}
-use Rattle.lk_rows.specs.declared.setup.Verb.TheVariants.{Try, Unlock}
+use Rattle.lk_rows.specs.declared.setup.Verb.TheVariants.{Lock, Try, Unlock}
 use Rattle.lk_rows.specs.Moves.{first_place}
 use Rattle.lk_rows.specs.Programs.{kind_of}
 use Rattle.lk_names.specs.declared.names.Kind.TheVariants.{Spin}
@@ -164,6 +164,15 @@ module _ (k : Plan) (p : ℕ) (l : ℕ) (m n : Me Slot View) (met : ℕ) (seat :
 
     begun_is : acting k.mode m.0.calls v l ≡ begin k.mode m.0.calls v l
     begun_is = path.acts_begin k.mode m.0.calls v l none
+
+  -- F1
+  module _ (none : waits_in m.0.calls.frames l ≡ false) (made : MadeBy Lock l m met n) where
+    pub F1_takes : eqb met 0 ≡ true → Took k p Lock l m.0.calls m.0 n.0
+    F1_takes h =
+        let at = first Lock refl none made in
+        let plain = ap (λ (z : LockName). z.wait) at.lock in
+        let o = rows.takes_free k.mode p {z = sight_of (terms_of k) p None} at.frame false plain (not_wait at.frame plain) made.found Lock F1 refl (is_zero _ met made.found made.word h) in
+        takes k p Lock l F1 m.0.calls m n met seat made (begin k.mode m.0.calls Lock l) (begun_is Lock refl none made) at tt o.place.0 (o.grip plain)
 
   -- T1
   module _ (none : waits_in m.0.calls.frames l ≡ false) (made : MadeBy Try l m met n) where

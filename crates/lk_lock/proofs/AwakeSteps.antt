@@ -1,5 +1,5 @@
 -- The same where the family spins, by what the calls of `lk_run` leave.
-use Rattle.std.proofs.Common.{◌≡◌, ℕ, ◌+◌, ◌-◌, List, length, Bool, true, false, refl, sym, ap, ◌∙◌, subst, inl, inr}
+use Rattle.std.proofs.Common.{◌≡◌, ℕ, ◌+◌, ◌-◌, List, length, None, Bool, true, false, refl, sym, ap, ◌∙◌, subst, inl, inr}
 use Rattle.std.proofs.lemmas.Bool.{cases_Bool}
 use Rattle.std.specs.Prelude.{if◌then◌else◌}
 use Rattle.lk_names.specs.declared.holder.Manner.{Manner}
@@ -9,20 +9,22 @@ use Rattle.lk_names.specs.declared.names.LockName.{LockName}
 use Rattle.lk_law.specs.Agree.{halts}
 use Rattle.lk_rows.specs.declared.setup.Verb.{Verb}
 use Rattle.lk_rows.specs.declared.parts.Pc.{Pc}
-use Rattle.lk_rows.specs.declared.setup.Verb.TheVariants.{TryWrite}
-use Rattle.lk_domain.specs.Calls.{Calls, Frees, Mark, free_of, holds_in, lock_name, moved_to, terms_of}
+use Rattle.lk_rows.specs.declared.setup.Verb.TheVariants.{Lock, TryWrite}
+use Rattle.lk_domain.specs.Calls.{Calls, Frees, Mark, Running, Takes, begun, free_of, holds_in, lock_name, moved_to, terms_of, waits_in}
 use Rattle.lk_domain.specs.Ledgers.{Ledger, closed, is_first, turned}
-use Rattle.lk_domain.specs.Paths.{HasFreed, HasLooked, HasMissed, HasTaken}
+use Rattle.lk_domain.specs.Paths.{HasFreed, HasLooked, HasMissed, HasTaken, Path}
 use Rattle.lk_domain.specs.Seats.{IsOf, IsSame, KeepsRest, calls_of, ledger_of}
-use Rattle.lk_domain.specs.Waits.{Drops, Gains, Misses}
+use Rattle.lk_domain.specs.Waits.{Drops, Gains, Misses, Turns}
 use Rattle.lk_domain.specs.declared.cpu.Cpu.{Cpu}
 use Rattle.lk_domain.specs.declared.domain.Domain.{Domain}
 use Rattle.lk_domain.proofs.Seating.{of_in}
 use Rattle.lk_pvdomain.specs.PvCalls.{IsResting}
 use Rattle.lk_run.specs.Entering.{HasEntered, Leaves}
-use Rattle.lk_lock.specs.Standing.{EntersLock, EntersOnce, FreesLock, IsAsBefore, IsHolding, IsOfKind, IsReady, LeavesLock, StaysOut, holds_of}
-use Rattle.lk_lock.specs.Turns.{FreesBy, HasUnlocked}
-use Rattle.lk_lock.proofs.Marks.{dropped, turned_out}
+use Rattle.lk_run.specs.Phases.{Holds, starting}
+use Rattle.lk_lock.specs.Standing.{EntersLock, EntersOnce, FreesLock, IsAsBefore, IsHolding, IsOfKind, IsReady, LeavesLock, StaysOut, TakesLock, TurnsLock, holds_of}
+use Rattle.lk_lock.specs.Turns.{FreesBy, HasLocked, HasUnlocked, PathBy}
+use Rattle.lk_domain.proofs.Holds.{dropped}
+use Rattle.lk_lock.proofs.Marks.{turned_out}
 use Rattle.lk_lock.proofs.Steps.{after_call, as_before, come_in, holding, newest}
 
 -- a domain that has a reader-writer lock halts none
@@ -52,6 +54,9 @@ freed_before l m before now new k has is holds =
 module _ (d : Domain) (old : Cpu) (was : IsReady d old) (awake : halts d.plan.mode ≡ false) where
   pub is_of : IsOf old d
   is_of = of_in old d was.domain_is awake
+
+  pub none_waits : (l : ℕ) → waits_in (calls_of old).frames l ≡ false
+  none_waits l = ap (λ (rs : List Running). waits_in rs l) was.frames
 
   -- so it never has to rest
   unrested : (c : Calls) → halts d.plan.mode ≡ true → IsResting c
@@ -93,16 +98,52 @@ module _ (d : Domain) (old : Cpu) (was : IsReady d old) (awake : halts d.plan.mo
   freed l mid last rest frames ledger =
       after mid rest frames (ap (λ (g : Ledger). g.out) ledger ∙ closed_out (ledger_of old) (lock_name l) last)
 
-  -- what a call has done that frees a spinlock
-  has_unlocked : (l : ℕ) (mid : Cpu) → HasFreed l (calls_of old) (calls_of mid)
-      → HasUnlocked (terms_of d.plan) old.number l (calls_of old) (calls_of mid)
-  has_unlocked l mid free =
+  -- what a call has done that takes a spinlock, and one that frees it
+
+  has_locked : (l : ℕ) (v : Verb) (c : Calls) → HasTaken (terms_of d.plan) old.number v l Spins (calls_of old) c
+      → c.taken ≡ (calls_of old).taken + 1 → HasLocked (terms_of d.plan) old.number v l (calls_of old) c
+  has_locked l v c taken once =
       record {
-        way = subst (λ (b : Bool). FreesBy b (terms_of d.plan) old.number l (calls_of mid).last) (sym awake)
-            (free.word, free.trail);
+        path = subst (λ (b : Bool). PathBy b (terms_of d.plan) old.number (begun d.plan.mode 0 v l) c.last (Takes Spins)) (sym awake)
+            (subst (λ (rs : List Running). Path (terms_of d.plan) old.number (begun d.plan.mode (length rs) v l) c.last (Takes Spins)) was.frames
+            taken.path);
+        frames = taken.frames;
+        holds = newest l c.taken Spins (calls_of old) c.holds was.frames taken.holds;
+        once = once;
+      }
+
+  has_unlocked : (l : ℕ) (b c : Calls) → HasFreed l b c → HasUnlocked (terms_of d.plan) old.number l b c
+  has_unlocked l b c free =
+      record {
+        way = subst (λ (off : Bool). FreesBy off (terms_of d.plan) old.number l c.last) (sym awake) (free.word, free.trail);
         frames = free.frames;
         none = free.none;
         taken = free.taken;
+      }
+
+  -- the processor waited for it since its first row
+  pub takes_late : (l : ℕ) (mid : Cpu) → KeepsRest old mid → Holds d Lock l Spins (starting old false None) mid None
+      → holds_in (holds_of old) l ≡ false → TakesLock d Lock l old mid
+  takes_late l mid rest has free =
+      let taken = subst (λ (n : ℕ). HasTaken (terms_of d.plan) n Lock l Spins (calls_of old) (calls_of mid)) rest.same.number has.taken in
+      record {
+        ready = locked l Spins mid (calls_of mid).last rest taken.frames has.look;
+        holding = holding l (calls_of mid).taken Spins old mid rest.same
+            (newest l (calls_of mid).taken Spins (calls_of old) (holds_of mid) was.frames taken.holds) free;
+        path = has_locked l Lock (calls_of mid) taken has.once;
+      }
+
+  -- it made a turn
+  pub turns : (l : ℕ) (new : Cpu) → KeepsRest old new → Turns d l old new → TurnsLock d l old new
+  turns l new rest has =
+      record {
+        ready = after new rest (has.freed.frames ∙ has.taken.frames) has.home;
+        before = record { same = rest.same; holds = has.holds };
+        turned = record {
+          inside = has.inside;
+          taken = has_locked l Lock has.inside has.taken has.once;
+          freed = has_unlocked l has.inside (calls_of new) has.freed;
+        };
       }
 
   -- what it is as a whole: a spinlock is freed
@@ -111,7 +152,7 @@ module _ (d : Domain) (old : Cpu) (was : IsReady d old) (awake : halts d.plan.mo
       record {
         ready = freed l mid (calls_of mid).last rest free.freed.frames free.ledger;
         before = λ b has. freed_before l Spins b old mid (length (calls_of old).frames) has rest.same free.freed.holds;
-        freed = has_unlocked l mid free.freed;
+        freed = has_unlocked l (calls_of old) (calls_of mid) free.freed;
       }
 
   -- a reader-writer lock is taken, is taken at one try or missed, and is freed

@@ -21,7 +21,7 @@ use Rattle.lk_lock.specs.Turns.{HasLocked}
 use Rattle.lk_names.specs.Names.{same_lock}
 use Rattle.lk_law.proofs.common.Puts.{if-true}
 use Rattle.lk_law.proofs.common.Sames.{same_lock-self}
-use Rattle.lk_lock.proofs.Marks.{found, held, marked, out_home}
+use Rattle.lk_domain.proofs.Holds.{found, held, marked, out_home}
 
 module _ (d : Domain) (old new : Cpu) (was : IsReady d old) where
   -- it is one of the domain

@@ -3,6 +3,7 @@ ghost use Rattle.std.specs.Prelude.{◌≡◌, IfSome, MatchOption, false};
 ghost use Rattle.std.specs.Fn.{FnOnceReturnsAtMut};
 ghost use Rattle.lk_names.specs.declared.holder.Manner.TheVariants.{Spins};
 ghost use Rattle.lk_names.specs.declared.names.Kind.TheVariants.{Spin as spinning, Rw as shared};
+ghost use Rattle.lk_cell.specs.Latched.{IsKey};
 ghost use Rattle.lk_domain.specs.Calls.{holds_in, terms_of};
 ghost use Rattle.lk_domain.specs.Paths.{HasMissed};
 ghost use Rattle.lk_domain.specs.Seats.{calls_of};
@@ -11,11 +12,12 @@ ghost use Rattle.lk_lock.specs.Standing.{HasWritten, HasWrittenOnce, IsAsBefore,
 ghost use Rattle.lk_lock.specs.Turns.{HasPassed, HasTurned};
 ghost use Rattle.lk_rows.specs.declared.setup.Verb.TheVariants.{Lock, Try, TryWrite, Write};
 
-use crate::holding::{free, free_now, take, try_take};
+use crate::holding::{free, free_halting, free_now, take_halting, try_take};
 use crate::locks::{Rw, Spin};
-use crate::working::work_under;
+use crate::working::{work_late, work_under};
 use crate::writing::{enter, leave, try_enter};
-use lk_domain::{Cpu, Domain, LockId};
+use lk_cell::Key;
+use lk_domain::{Cpu, Domain, LockId, turn};
 use std::sync::Wait;
 
 /// The right of a thread to take the locks of a domain.
@@ -137,11 +139,28 @@ impl<'a, R: Wait> Seat<'a, R> {
             spin.now.id.index (calls_of self.old.cpu.now) (calls_of self.new.cpu.now) }
         ensures done { (x : T) × (y : T) × FnOnceReturnsAtMut W.FnOnce work x result y }
     {
-        let id = spin.id;
-        take(self.cpu, self.rt, self.domain, id);
-        let done = work_under(self.cpu, self.domain, id, &spin.cell, work);
-        free(self.cpu, self.rt, self.domain, id);
-        done
+        let (id, cell) = (spin.id, &spin.cell);
+        if self.domain.halts() {
+            take_halting(self.cpu, self.rt, self.domain, id);
+            let done = work_under(self.cpu, self.domain, id, cell, work);
+            free_halting(self.cpu, self.rt, self.domain, id);
+            return done;
+        }
+        let turned = turn(
+            self.cpu,
+            self.domain,
+            id,
+            |key: &mut Key| -> U
+                requires key { IsKey cell.now.table.shared.table_id key.old }
+                requires callable { W.IsAlwaysCallable work }
+                ensures key { IsKey cell.entry.now.table.shared.table_id key.new }
+                ensures done { (x : T) × (y : T) × FnOnceReturnsAtMut W.FnOnce work x result y }
+            { cell.with(key, work) },
+        );
+        match turned {
+            Ok(done) => done,
+            Err(waiting) => work_late(self.cpu, self.rt, self.domain, id, waiting),
+        }
     }
 
     /// The same as `try_with` in each family. It does not wait for the lock; to free a paravirtual one it

@@ -41,18 +41,27 @@ pub(crate) fn fast(cpu: &mut Cpu, domain: &Domain, lock: LockName) -> u64
     steps::take_first(cpu, domain, Verb::Lock, lock)
 }
 
-// A lock that was not free, and the word that its first row met.
+/// A lock that was not free, and the word that its first row met.
 #[derive(Clone, Copy)]
-struct Busy {
-    lock: LockId,
-    met: u64,
+pub struct Busy {
+    /// The lock.
+    pub lock: LockId,
+    /// The word.
+    pub met: u64,
 }
 
-// From the place to which the first row led. It is out of the way of a call that takes a free lock,
-// which builds no `Call`.
+/// Goes on with a call of `lock` from the place to which its first row led, until the processor holds the
+/// lock (`queued_spin_lock_slowpath`). It is out of the way of a call that takes a free lock, which
+/// builds no `Call`.
 #[cold]
 #[inline(never)]
-fn lock_slowpath<I: Irq, R: Wait>(cpu: &mut Cpu, rt: &R, domain: &Domain, busy: Busy, irq: &mut I)
+pub fn lock_slowpath<I: Irq, R: Wait>(
+    cpu: &mut Cpu,
+    rt: &R,
+    domain: &Domain,
+    busy: Busy,
+    irq: &mut I,
+)
     requires domain { IsOf cpu.old domain.now }
     requires lock { busy.lock.index < locks_of domain.now.plan }
     requires begun { Begun (Arrives domain.now Lock (lock_name busy.lock.index) busy.met) I.nests

@@ -1,16 +1,10 @@
-use Rattle.std.proofs.Common.{refl, sym, subst}
-use Rattle.lk_domain.specs.Paths.{Any}
-use Rattle.lk_run.specs.Phases.{Waits, starting}
+use Rattle.std.proofs.Common.{refl}
 use Rattle.lk_rows.specs.declared.setup.Verb.TheVariants.{Lock}
-use Rattle.lk_law.specs.Leads.{Word}
-use Rattle.lk_rows.specs.rows.Spin.{after_fast}
 use Rattle.lk_domain.specs.Rows.{takes_by}
 use Rattle.lk_domain.specs.Seats.{view_of}
 use Rattle.lk_domain.proofs.Ways as seat
-use Rattle.lk_run.proofs.Places.{met_by, free_by, held_by, not_fast}
-use Rattle.lk_run.proofs.Rows as row
+use Rattle.lk_run.proofs.Fast as fast
 use Rattle.lk_run.proofs.Steps.{plain_in, seat_of}
-use Rattle.lk_run.proofs.Stepped as way
 use Rattle.lk_run.proofs.spin.fast.Goals as goal
 
 pub take_first-requires-clause-row : goal.take_first-requires-clause-row
@@ -23,30 +17,10 @@ take_first-requires-clause-row c =
 
 pub returns-clause-taken : goal.returns-clause-taken
 returns-clause-taken c is nests told =
-    let d = c.args.domain.now in
-    let a = c.args.cpu.now in
-    let b = c.take_first.new.cpu in
-    let l = c.args.lock.index in
-    let made = c.take_first.ensures.step.by in
-    way.first_takes d Lock c.args.lock.index a b c.take_first.ensures.rest c.requires.domain refl (λ e. cc e) (Word made.found)
-    (way.first_word d Lock c.args.lock a b c.take_first.ensures.rest c.requires.domain made c.requires.may.fresh) nests told refl refl
-    (λ f. row.fast_takes d.plan.mode b.number f made.found (free_by _ c.take_first.result made.found made.word is))
+    fast.takes c.args.domain.now c.args.lock c.requires.plain c.args.cpu.now c.take_first.new.cpu c.take_first.ensures.rest
+    c.requires.domain c.requires.may.fresh c.take_first.result c.take_first.ensures.step nests told is
 
 pub returns-clause-waits : goal.returns-clause-waits
-returns-clause-waits c is nests told =
-    let d = c.args.domain.now in
-    let a = c.args.cpu.now in
-    let b = c.take_first.new.cpu in
-    let l = c.args.lock.index in
-    let made = c.take_first.ensures.step.by in
-    let met = met_by d a b c.requires.domain c.take_first.ensures.step in
-    record {
-      found = made.found;
-      packs = met.packs;
-      word = met.word;
-      waits = subst (λ z. Waits d Lock z (after_fast d.plan.mode made.found) Any (starting a nests told) b told) (λ i. record { index = c.args.lock.index; wait = sym c.requires.plain i })
-          (way.first_goes d Lock c.args.lock.index a b c.take_first.ensures.rest c.requires.domain refl (λ e. cc e) (Word made.found)
-          (way.first_word d Lock c.args.lock a b c.take_first.ensures.rest c.requires.domain made c.requires.may.fresh) nests told
-          (after_fast d.plan.mode made.found) (not_fast d.plan.mode made.found)
-          (λ f. row.fast_goes d.plan.mode b.number f made.found (held_by _ c.take_first.result made.found made.word is)));
-    }
+returns-clause-waits c other nests told =
+    fast.arrives c.args.domain.now c.args.lock c.requires.plain c.args.cpu.now c.take_first.new.cpu c.take_first.ensures.rest
+    c.requires.domain c.requires.may.fresh c.take_first.result c.take_first.ensures.step nests told other

@@ -5,19 +5,31 @@ use Rattle.lk_lock.proofs.seat.Seat.with.Goals as goal
 
 pub work_under-done-requires-clause-held : goal.work_under-done-requires-clause-held
 work_under-done-requires-clause-held g c =
-    at_home c.args.spin.now.id.index Spins c.args.self.now.cpu.now c.take.new.cpu c.take.ensures.holding refl
+    at_home c.args.spin.now.id.index Spins c.args.self.now.cpu.now c.take_halting.new.cpu c.take_halting.ensures.holding refl
 
-pub free-requires-clause-holding : goal.free-requires-clause-holding
-free-requires-clause-holding g c =
+pub free_halting-requires-clause-holding : goal.free_halting-requires-clause-holding
+free_halting-requires-clause-holding g c =
     let old = c.args.self.now.cpu.now in (
       old,
-      still_holding c.args.spin.now.id.index Spins old c.take.new.cpu c.take.ensures.holding c.work_under-done.new.cpu
+      still_holding c.args.spin.now.id.index Spins old c.take_halting.new.cpu c.take_halting.ensures.holding c.work_under-done.new.cpu
           c.work_under-done.ensures.still,
     )
 
-pub returns-clause-before : goal.returns-clause-before
-returns-clause-before g c =
+pub returns-then-halts-clause-before : goal.returns-then-halts-clause-before
+returns-then-halts-clause-before g c =
     let old = c.args.self.now.cpu.now in
-    c.free.ensures.before old
-    (still_holding c.args.spin.now.id.index Spins old c.take.new.cpu c.take.ensures.holding c.work_under-done.new.cpu
+    c.free_halting.ensures.before old
+    (still_holding c.args.spin.now.id.index Spins old c.take_halting.new.cpu c.take_halting.ensures.holding c.work_under-done.new.cpu
     c.work_under-done.ensures.still)
+
+pub work_late-requires-clause-waits : goal.work_late-requires-clause-waits
+work_late-requires-clause-waits g c = (
+  c.args.self.now.cpu.now,
+  record {
+    ready = c.args.self.now.ready;
+    free = c.requires.free;
+    rest = c.in-Err.ensures.rest;
+    other = c.in-Err.ensures.waits.0;
+    made = c.in-Err.ensures.waits.2;
+  },
+)
