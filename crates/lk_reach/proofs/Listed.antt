@@ -25,7 +25,7 @@ listed_same (suc n) f g same =
     ap (λ xs. xs ++ f n ∷ []) (listed_same n f g (λ i low. same i (omega (arith, low))))
     ∙ ap (λ x. listed n g ++ x ∷ []) (same n (omega arith))
 
-earlier : {A : Type 0} → (xs ys : List A) (i : ℕ) (x : A) → slice_get xs i ≡ Some x → slice_get (xs ++ ys) i ≡ Some x
+pub earlier : {A : Type 0} → (xs ys : List A) (i : ℕ) (x : A) → slice_get xs i ≡ Some x → slice_get (xs ++ ys) i ≡ Some x
 earlier [] ys i x e = cc
 earlier (y ∷ xs) ys zero x e = e
 earlier (y ∷ xs) ys (suc i) x e = earlier xs ys i x e
@@ -99,6 +99,18 @@ four_is (a ∷ b ∷ []) e = absurd (omega (arith, e))
 four_is (a ∷ b ∷ c ∷ []) e = absurd (omega (arith, e))
 four_is (a ∷ b ∷ c ∷ d ∷ []) e = refl
 four_is (a ∷ b ∷ c ∷ d ∷ f ∷ xs) e = absurd (omega (arith, e))
+
+-- one of four numbers, by its halves
+pub joined_part : (ls us : List ℕ) (i : ℕ) → i < 4 → slice_get (joined ls us) i ≡ Some (nth ls i + 65536 * nth us i)
+joined_part ls us zero low = refl
+joined_part ls us (suc zero) low = refl
+joined_part ls us (suc (suc zero)) low = refl
+joined_part ls us (suc (suc (suc zero))) low = refl
+joined_part ls us (suc (suc (suc (suc i)))) low = absurd (omega (arith, low))
+
+-- and one behind them
+pub behind_four : (ls us xs : List ℕ) (i j : ℕ) → i ≡ suc (suc (suc (suc j))) → slice_get (joined ls us ++ xs) i ≡ slice_get xs j
+behind_four ls us xs i j e = ap (λ (h : ℕ). slice_get (joined ls us ++ xs) h) e
 
 halves : (n : ℕ) → n % 65536 + 65536 * (n / 65536) ≡ n
 halves n = omega arith

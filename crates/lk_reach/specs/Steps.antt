@@ -99,11 +99,8 @@ abbrev pub Remembers : Option (ℕ × ℕ) → Spot → Led → List (Option Mad
 Remembers touched spot led old new = (i : ℕ) (d : Made) → slice_get new i ≡ Some (Some d)
     → IsAmongMade old d ⊎ IsMadeBy touched spot led d
 
--- a step that was made on the same parts led so
-pub record IsRemembered (made : List (Option Made)) (key : Key) (a : Act) (led : Led) : Type 0 where
-  pub step : Made
-  pub is : IsAmongMade made step
-  pub begins : Begins key step
-  pub doing : a ≡ Step step.cpu
-  pub then : led.key ≡ then_key step key
-  pub event : led.event ≡ step.event
+-- a step of this act that was made on the same parts
+pub record IsRemembered (made : List (Option Made)) (key : Key) (a : Act) (e : Made) : Type 0 where
+  pub is : IsAmongMade made e
+  pub begins : Begins key e
+  pub doing : a ≡ Step e.cpu

@@ -148,6 +148,12 @@ impl<'a, R: Threads + Sync> Crew<'a, R> {
         Some(finding)
     }
 
+    /// Whether helpers tried the acts on a state.
+    #[inline]
+    pub(crate) fn has_tried(&self, state: usize) -> bool {
+        state < self.ahead
+    }
+
     /// What a helper found of an act on a state, if it did. It is taken once, and in the order of the
     /// states and of the acts.
     pub(crate) fn take(&mut self, plan: &Plan, state: usize, act: usize) -> Option<Finding>

@@ -17,7 +17,7 @@ mod anew;
 
 use crate::book::{Book, Seen};
 use crate::crew::Crew;
-use crate::exploring::anew::lead_anew;
+use crate::exploring::anew::make_anew;
 use crate::folding::{Here, fold};
 use crate::found::Then;
 use crate::graph::Graph;
@@ -26,7 +26,7 @@ use crate::making::make;
 use crate::path::path_to;
 use crate::plan::Plan;
 use crate::space::Space;
-use crate::spot::Spot;
+use crate::spot::{Spot, remembered};
 use crate::table::MOST;
 use lk_core::{acts_change_little, runs_keep};
 use lk_machine::Machine;
@@ -42,6 +42,7 @@ pub trait Watch {
 
 // Makes an act on the state that is left, where states are folded. Returns the number of a state that
 // stands for the one after it, and the event.
+#[inline(never)]
 fn visit_folded(
     space: &mut Space,
     machine: &mut Machine,
@@ -70,6 +71,7 @@ fn visit_folded(
 
 // Where an act leads from the state that is left, where no states are folded, and what it tells: as it
 // is remembered, and else by making it.
+#[inline(always)]
 fn visit_plain<R: Threads + Sync>(
     space: &mut Space,
     crew: &mut Crew<'_, R>,
@@ -96,12 +98,23 @@ fn visit_plain<R: Threads + Sync>(
 {
     let _ = plan;
     let spot = &here.spot;
-    let led = lead_anew(space, &mut crew.machine, &mut crew.steps, spot, doing)?;
-    let number = space.note_key(&led.key, led.hash)?;
-    Ok((number, led.event))
+    match remembered(&crew.steps, spot, doing) {
+        Some(made) => {
+            let mut key = spot.key;
+            made.change(&mut key);
+            let number = space.note_key(&key, spot.hash.wrapping_add(made.turn))?;
+            Ok((number, made.event))
+        }
+        None => {
+            let led = make_anew(space, &mut crew.machine, &mut crew.steps, spot, doing)?;
+            let number = space.note_key(&led.key, led.hash)?;
+            Ok((number, led.event))
+        }
+    }
 }
 
 // Where an act leads from the state that is left, and what it tells.
+#[inline(always)]
 fn visit<R: Threads + Sync>(
     space: &mut Space,
     crew: &mut Crew<'_, R>,
@@ -151,7 +164,8 @@ fn settle(space: &mut Space, then: &Then) -> Result<u32, Memory>
 
 // Where an act leads from the state that is left, and what it tells: as a helper found it, and else by
 // making it.
-fn lead<R: Threads + Sync>(
+#[inline(never)]
+fn lead_ahead<R: Threads + Sync>(
     space: &mut Space,
     crew: &mut Crew<'_, R>,
     plan: &Plan,
@@ -189,6 +203,46 @@ fn lead<R: Threads + Sync>(
             let found = visit(space, crew, plan, here, plan.act(number))?;
             Ok(found)
         }
+    }
+}
+
+// Where an act leads from the state that is left, and what it tells. What helpers found is looked at only
+// if they tried the acts on this state.
+fn lead<R: Threads + Sync>(
+    space: &mut Space,
+    crew: &mut Crew<'_, R>,
+    plan: &Plan,
+    here: &Here,
+    number: usize,
+) -> Result<(u32, Option<Event>), Memory>
+    requires few { length crew.old.machine.cpus ≤ 8 }
+    requires such { IsSuch crew.old.machine.setup crew.old.machine }
+    requires here { IsHere plan.now crew.old.machine.setup space.old here.now }
+    requires act { number < length plan.now.acts.items }
+    requires moves { OnlyMoves plan.now.extras crew.old.machine.setup plan.now.acts.items }
+    requires made { AreMade crew.old.machine.setup space.old crew.old.steps.made.items }
+    requires helpers { AreHelpers plan.now crew.old.machine.setup space.old
+        crew.old.helpers.list.items }
+    ensures noted { IfOk result (λ found. (s : MachineValue) (a : ActValue)
+        → slice_get plan.now.acts.items number ≡ Some a → Keeps space.old here.now.spot.state s
+        → IsReached plan.now crew.old.machine.setup s
+        → IsNoted plan.now crew.old.machine.setup space.old space.new here.now.spot.state
+        (after s a) found.0) }
+    ensures told { IfOk result (λ found. (s : MachineValue) (a : ActValue)
+        → slice_get plan.now.acts.items number ≡ Some a → Keeps space.old here.now.spot.state s
+        → IsReached plan.now crew.old.machine.setup s → found.1 ≡ (next s a).1) }
+    ensures such { OnOk result (IsSuch crew.old.machine.setup crew.new.machine) }
+    ensures made { OnOk result
+        (AreMade crew.old.machine.setup space.new crew.new.steps.made.items) }
+    ensures helpers { OnOk result (AreHelpers plan.now crew.old.machine.setup space.new
+        crew.new.helpers.list.items) }
+{
+    if crew.has_tried(here.spot.state) {
+        let found = lead_ahead(space, crew, plan, here, number)?;
+        Ok(found)
+    } else {
+        let found = visit(space, crew, plan, here, plan.act(number))?;
+        Ok(found)
     }
 }
 

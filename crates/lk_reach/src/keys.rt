@@ -51,7 +51,7 @@ impl Keys {
     }
 
     /// The key of the state with this number.
-    #[inline]
+    #[inline(always)]
     pub(crate) fn at(&self, number: usize) -> Key
         requires { number < length self.now }
         ensures { slice_get self.now number ≡ Some result }
@@ -66,8 +66,23 @@ impl Keys {
         }
     }
 
-    /// The key of the state with this number, if there is one.
+    /// The number of the part of a processor, at the state with this number.
     #[inline]
+    pub(crate) fn part(&self, number: usize, cpu: u32) -> usize
+        requires number { number < length self.now }
+        requires cpu { cpu < 8 }
+        ensures { (key : KeyValue) → slice_get self.now number ≡ Some key
+            → slice_get key.cpus cpu ≡ Some result }
+    {
+        if cpu < 4 {
+            self.first.part(number, cpu as usize) as usize
+        } else {
+            self.others.part(number, cpu as usize - 4) as usize
+        }
+    }
+
+    /// The key of the state with this number, if there is one.
+    #[inline(always)]
     pub(crate) fn get(&self, number: usize) -> Option<Key>
         ensures { IfSome result (λ key. slice_get self.now number ≡ Some key) }
     {

@@ -225,7 +225,7 @@ impl Space {
     }
 
     // Whether two parts are the same one, or have the same class.
-    #[inline]
+    #[inline(always)]
     fn is_like(&self, part: u32, other: u32) -> bool
         ensures { result ≡ true → IsLikePart self.now.classes part other }
     {
@@ -239,7 +239,7 @@ impl Space {
     }
 
     // Whether these parts are like those, one by one.
-    #[inline]
+    #[inline(always)]
     fn are_like(&self, parts: &[u32], others: &[u32]) -> bool
         ensures { result ≡ true → AreLikeParts self.now.classes parts.now others.now }
     {
@@ -255,7 +255,7 @@ impl Space {
     }
 
     // Whether two keys have the same form.
-    #[inline]
+    #[inline(always)]
     fn have_form(&self, one: &Key, other: &Key) -> bool
         ensures { result ≡ true → HaveForm self.now.classes one.now other.now }
     {
@@ -266,7 +266,7 @@ impl Space {
     }
 
     // Whether the key of the state with this number has the form of this one.
-    #[inline]
+    #[inline(always)]
     fn has_form(&self, number: usize, key: &Key) -> bool
         ensures { result ≡ true → IsNumberOf self.now number key.now }
     {

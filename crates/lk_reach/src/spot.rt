@@ -7,7 +7,7 @@ ghost use Rattle.lk_rows.specs.Acts.{processor_of};
 ghost use Rattle.lk_reach.specs.declared.steps.Made.{Made as MadeValue};
 ghost use Rattle.lk_reach.specs.Explored.{IsSuch};
 ghost use Rattle.lk_reach.specs.Reach.{cpus_of};
-ghost use Rattle.lk_reach.specs.Steps.{AreMade, IsLed, IsMadeOn, IsRemembered, IsSpot, Remembers};
+ghost use Rattle.lk_reach.specs.Steps.{AreMade, IsLed, IsMadeOn, IsRemembered, IsSpot, Remembers, then_key};
 
 use crate::key::Key;
 use crate::making::make;
@@ -98,20 +98,31 @@ fn make_on(
     Some(led)
 }
 
-/// Where a step led that was made on the same parts as this state has.
-#[inline]
-pub(crate) fn remembered(steps: &Steps, spot: &Spot, doing: Act) -> Option<Led>
-    ensures { IfSome result (λ led. IsRemembered steps.now.made.items spot.now.key doing led) }
+/// The step that was made on the same parts as this state has, if the act is one.
+#[inline(always)]
+pub(crate) fn remembered<'a>(steps: &'a Steps, spot: &Spot, doing: Act) -> Option<&'a Made>
+    ensures { IfSome result (λ e. IsRemembered steps.now.made.items spot.now.key doing e.now) }
 {
-    let Act::Step(cpu) = doing else {
-        return None;
-    };
-    let made = steps.find(&spot.key, cpu)?;
-    Some(Led {
-        key: made.then(&spot.key),
+    match doing {
+        Act::Step(cpu) => steps.find(&spot.key, cpu),
+        _ => None,
+    }
+}
+
+// Where a step leads on a state.
+fn led_by(made: &Made, spot: &Spot) -> Led
+    requires low { made.now.cpu < 8 }
+    requires near { made.now.other < 8 }
+    ensures key { result.key ≡ then_key made.now spot.now.key }
+    ensures event { result.event ≡ made.now.event }
+{
+    let mut key = spot.key;
+    made.change(&mut key);
+    Led {
+        key,
         hash: spot.hash.wrapping_add(made.turn),
         event: made.event,
-    })
+    }
 }
 
 /// Where an act leads on a state, if a step was made on the same parts, or each part of what it leads to
@@ -134,7 +145,7 @@ pub(crate) fn lead(
     ensures made { AreMade machine.old.setup space.now steps.new.made.items }
 {
     match remembered(steps, spot, doing) {
-        Some(led) => Some(led),
+        Some(made) => Some(led_by(made, spot)),
         None => make_on(space, machine, steps, spot, doing),
     }
 }

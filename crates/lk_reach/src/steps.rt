@@ -125,20 +125,16 @@ fn step_at(made: &Vec<Option<Made>>, at: usize) -> Option<&Made>
 }
 
 impl Made {
-    /// The key of a state behind the step, which it leaves with this key.
+    /// The key of the state that the step leaves becomes the one behind it.
     #[inline]
-    pub(crate) fn then(&self, key: &Key) -> Key
+    pub(crate) fn change(&self, key: &mut Key)
         requires low { self.now.cpu < 8 }
         requires near { self.now.other < 8 }
-        ensures { result ≡ then_key self.now key.now }
+        ensures { key.new ≡ then_key self.now key.old }
     {
-        let mut cpus = key.cpus;
-        cpus[self.cpu as usize] = self.then_part;
-        cpus[self.other as usize] = self.then_beside;
-        Key {
-            shared: self.then_shared,
-            cpus,
-        }
+        key.shared = self.then_shared;
+        key.cpus[self.cpu as usize] = self.then_part;
+        key.cpus[self.other as usize] = self.then_beside;
     }
 }
 
@@ -191,7 +187,7 @@ impl Steps {
     }
 
     /// The step of a processor on a state with this key, if it was made.
-    #[inline]
+    #[inline(always)]
     pub(crate) fn find(&self, key: &Key, cpu: u32) -> Option<&Made>
         ensures { IfSome result (λ e. IsFoundStep self.now.made.items key.now cpu e.now) }
     {

@@ -1,6 +1,6 @@
 -- A step that was made leads from each state with the parts that it touches to the same parts.
-use Rattle.std.proofs.Common.{arith, ℕ, ◌≡◌, ◌∙◌, ◌<◌, ◌*◌, List, Option, Some, length, get_or, set, set-set}
-use Rattle.std.proofs.Common.{ap, inl, inr, refl, sym, subst, length-set, get_or-set_same, get_or-set_other}
+use Rattle.std.proofs.Common.{arith, ℕ, ◌≡◌, ◌∙◌, ◌<◌, ◌*◌, List, Option, Some, length, get_or, set}
+use Rattle.std.proofs.Common.{ap, inl, inr, sym, subst, length-set, get_or-set_same, get_or-set_other}
 use Rattle.std.proofs.lemmas.Bool.{cases_eq}
 use Rattle.std.proofs.lemmas.List.{set-get_or}
 use Rattle.std.proofs.lemmas.Option.{slice_get_within}
@@ -21,8 +21,8 @@ use Rattle.lk_reach.specs.declared.spot.Spot.{Spot}
 use Rattle.lk_reach.specs.declared.steps.Made.{Made}
 use Rattle.lk_reach.specs.Explored.{IsSuch}
 use Rattle.lk_reach.specs.Reach.{after, bare}
-use Rattle.lk_reach.specs.Space.{Grows, HasShared, Keeps, KeyKeeps, SpaceValue}
-use Rattle.lk_reach.specs.Steps.{AreMade, Begins, HasParts, IsLed, IsMadeBy, IsMadeOn, IsRemembered, IsSpot, Remembers}
+use Rattle.lk_reach.specs.Space.{Grows, Keeps, KeyKeeps, SpaceValue}
+use Rattle.lk_reach.specs.Steps.{AreMade, Begins, HasParts, IsLed, IsMadeOn, IsRemembered, IsSpot}
 use Rattle.lk_reach.specs.Steps.{WasMade, then_key}
 use Rattle.lk_reach.proofs.Kept.{front_at, one_value, same_machine, set_other, set_same}
 
@@ -214,10 +214,10 @@ module _ (setup : Setup) (v : SpaceValue) (e : Made) (x : WasMade setup v e) (ke
       })
 
 -- so a step that is remembered leads there
-pub remembered_led : (setup : Setup) (v : SpaceValue) (made : List (Option Made)) (spot : Spot) (a : Act) (led : Led)
-    → AreMade setup v made → IsSpot setup v spot → IsRemembered made spot.key a led → IsLed setup v spot.state a led
-remembered_led setup v made spot a led all at x =
-    let e = x.step in
+pub remembered_led : (setup : Setup) (v : SpaceValue) (made : List (Option Made)) (spot : Spot) (a : Act) (e : Made) (led : Led)
+    → AreMade setup v made → IsSpot setup v spot → IsRemembered made spot.key a e → led.key ≡ then_key e spot.key
+    → led.event ≡ e.event → IsLed setup v spot.state a led
+remembered_led setup v made spot a e led all at x then event =
     let w = all x.is.0 e x.is.1 in
     let key : (s : Machine) → Keeps v spot.state s → KeyKeeps v.parts v.shareds spot.key s =
     λ s keeps. subst (λ (k : Key). KeyKeeps v.parts v.shareds k s)
@@ -225,10 +225,10 @@ remembered_led setup v made spot a led all at x =
     record {
       then = λ s keeps such.
           subst (λ (b : Act). KeyKeeps v.parts v.shareds led.key (after s b)) (sym x.doing)
-          (subst (λ (k : Key). KeyKeeps v.parts v.shareds k (after s (Step e.cpu))) (sym x.then)
+          (subst (λ (k : Key). KeyKeeps v.parts v.shareds k (after s (Step e.cpu))) (sym then)
           (then_keeps setup v e w spot.key x.begins s (key s keeps) such));
       event = λ s keeps such.
-          x.event ∙ told setup v e w spot.key x.begins s (key s keeps) such
+          event ∙ told setup v e w spot.key x.begins s (key s keeps) such
           ∙ ap (λ (b : Act). (next s b).1) (sym x.doing);
     }
 

@@ -1,6 +1,6 @@
 // Four numbers at each position, in as many bytes as they need.
 
-ghost use Rattle.std.specs.Prelude.{◌≡◌, ◌+◌, ◌*◌, [], ◌∷◌, OnOk, true};
+ghost use Rattle.std.specs.Prelude.{◌≡◌, ◌<◌, ◌+◌, ◌*◌, [], ◌∷◌, OnOk, Some, slice_get, true};
 ghost use Rattle.lk_reach.specs.Numbers.{Puts, PutsFour, four_at, joined, lower_halves, none, upper_halves};
 
 use crate::numbers::padded::{item_at, put_item};
@@ -92,7 +92,7 @@ impl Fours {
     }
 
     /// The four numbers at a position.
-    #[inline]
+    #[inline(always)]
     pub(crate) fn get(&self, at: usize) -> [u32; 4]
         ensures { result ≡ four_at self.now at }
     {
@@ -107,6 +107,17 @@ impl Fours {
             joined(lower[2], upper[2]),
             joined(lower[3], upper[3]),
         ]
+    }
+
+    /// One of the four numbers at a position.
+    #[inline]
+    pub(crate) fn part(&self, at: usize, place: usize) -> u32
+        requires { place < 4 }
+        ensures { slice_get (four_at self.now at) place ≡ Some result }
+    {
+        let lower = item_at(&self.lower, at, [0; 4]);
+        let upper = item_at(&self.upper, at, [0; 4]);
+        joined(lower[place], upper[place])
     }
 
     /// Puts four numbers at a position.

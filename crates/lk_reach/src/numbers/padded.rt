@@ -67,5 +67,9 @@ pub(crate) fn put_item<T: Copy + Drop>(
     if is_zero && at >= items.len() {
         return Ok(());
     }
+    if at == items.len() && at < items.capacity() {
+        items.push_reserved(item);
+        return Ok(());
+    }
     set_item(items, at, item, zero)
 }

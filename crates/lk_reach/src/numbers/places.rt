@@ -33,8 +33,11 @@ impl Places {
     pub(crate) fn get(&self, at: usize) -> u32
         ensures { result ≡ place_at self.now at }
     {
-        let lower = item_at(&self.lower, at, [0; 3]);
-        u32::from_le_bytes([lower[0], lower[1], lower[2], item_at(&self.upper, at, 0)])
+        let upper = item_at(&self.upper, at, 0);
+        match self.lower.get(at) {
+            Some(lower) => u32::from_le_bytes([lower[0], lower[1], lower[2], upper]),
+            None => u32::from_le_bytes([0, 0, 0, upper]),
+        }
     }
 
     /// Puts a number at a position.

@@ -1,8 +1,9 @@
 // Marks of parts. A part makes a row or none, and is done or not, whichever state has it. There are far
 // fewer parts than states, and they are far larger than marks.
 
-ghost use Rattle.std.specs.Prelude.{◌≡◌, ◌<◌, ◌≤◌, IfOk, length, replicate, true, false};
+ghost use Rattle.std.specs.Prelude.{◌≡◌, ◌<◌, ◌≤◌, IfOk, Some, length, replicate, slice_get, true, false};
 ghost use Rattle.lk_rows.specs.Machine.{Machine as MachineValue};
+ghost use Rattle.lk_reach.specs.declared.key.Key.{Key as KeyValue};
 ghost use Rattle.lk_reach.specs.Ends.{AreOvers};
 ghost use Rattle.lk_reach.specs.Reach.{AreOver};
 ghost use Rattle.lk_reach.specs.Rows.{AreUsed, AreUsedNow, MakesAt, MakesMarked};
@@ -10,7 +11,6 @@ ghost use Rattle.lk_reach.specs.Space.{Keeps};
 
 use crate::ends::{is_marked, mark};
 use crate::graph::add_mark;
-use crate::key::Key;
 use crate::space::{Space, is_row};
 use lk_machine::CpuState;
 use lk_names::Memory;
@@ -23,16 +23,6 @@ fn unmarked(alloc: Global, parts: &[CpuState]) -> Result<Vec<bool>, Memory>
 {
     let marks = vec![in alloc; false; parts.len()]?;
     Ok(marks)
-}
-
-// Marks the parts of a state's first processors.
-fn mark_parts(marks: &mut Vec<bool>, key: &Key, cpus: u32)
-    requires { cpus ≤ 8 }
-    ensures { AreUsedNow key.now marks.old.items marks.new.items cpus }
-{
-    for cpu in 0..cpus {
-        mark(marks, key.part(cpu));
-    }
 }
 
 // Whether a part is marked, and makes this row.
@@ -94,13 +84,24 @@ impl Space {
         ensures no { result ≡ false → (s : MachineValue) → Keeps self.now state s
             → length s.cpus ≡ cpus → ¬ AreOver s }
     {
-        let key = self.keys.at(state);
         for cpu in 0..cpus {
-            if !is_marked(overs, key.part(cpu)) {
+            if !is_marked(overs, self.keys.part(state, cpu)) {
                 return false;
             }
         }
         true
+    }
+
+    // Marks the parts of a state's first processors.
+    fn mark_parts(&self, marks: &mut Vec<bool>, state: usize, cpus: u32)
+        requires there { state < length self.now.keys }
+        requires few { cpus ≤ 8 }
+        ensures { (key : KeyValue) → slice_get self.now.keys state ≡ Some key
+            → AreUsedNow key marks.old.items marks.new.items cpus }
+    {
+        for cpu in 0..cpus {
+            mark(marks, self.keys.part(state, cpu));
+        }
     }
 
     /// For each part of a processor that was met whether some state has it, as that of one of so many
@@ -115,8 +116,7 @@ impl Space {
     {
         let mut marks = unmarked(self.alloc, &self.parts.items)?;
         for state in 0..self.len() {
-            let key = self.keys.at(state);
-            mark_parts(&mut marks, &key, cpus);
+            self.mark_parts(&mut marks, state, cpus);
         }
         Ok(marks)
     }

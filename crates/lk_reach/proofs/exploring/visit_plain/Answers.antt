@@ -1,68 +1,124 @@
-use Rattle.std.proofs.Common.{List, ap, arith, length, refl}
+use Rattle.std.proofs.Common.{◌≡◌, List, Option, ap, arith, length, refl, false, ℕ}
+use Rattle.lk_names.specs.declared.events.Act.{Act}
+use Rattle.lk_names.specs.declared.events.Event.{Event}
+use Rattle.lk_rows.specs.declared.setup.Setup.{Setup}
+use Rattle.lk_rows.specs.Acts.{next}
 use Rattle.lk_rows.specs.Machine.{Machine}
+use Rattle.lk_reach.specs.declared.folding.Here.{Here}
 use Rattle.lk_reach.specs.declared.key.Key.{Key}
+use Rattle.lk_reach.specs.declared.plan.Plan.{Plan}
+use Rattle.lk_reach.specs.declared.spot.Led.{Led}
+use Rattle.lk_reach.specs.declared.steps.Made.{Made}
 use Rattle.lk_reach.specs.Explored.{IsSuch}
-use Rattle.lk_reach.specs.Reach.{IsReached, after}
-use Rattle.lk_reach.specs.Space.{Keeps, KeyKeeps}
+use Rattle.lk_reach.specs.Folded.{IsHere, IsNoted}
+use Rattle.lk_reach.specs.Helped.{IsKeyNoted}
+use Rattle.lk_reach.specs.Reach.{IsBegun, IsMove, IsReached, after}
+use Rattle.lk_reach.specs.Space.{AddsParts, Keeps, KeyKeeps, SpaceValue}
+use Rattle.lk_reach.specs.Steps.{AreMade, IsLed, IsRemembered, IsSpot, then_key}
 use Rattle.lk_reach.proofs.Closed as closed
 use Rattle.lk_reach.proofs.Folded as folded
 use Rattle.lk_reach.proofs.Kept.{keeps_grown, key_grown}
-use Rattle.lk_reach.proofs.Left.{grows_then}
+use Rattle.lk_reach.proofs.Left.{grows_self, grows_then}
 use Rattle.lk_reach.proofs.apart.Noted.{plain_noted}
-use Rattle.lk_reach.proofs.apart.Remembered.{made_grown}
+use Rattle.lk_reach.proofs.apart.Remembered.{made_grown, remembered_led}
 use Rattle.lk_reach.proofs.exploring.visit_plain.Goals as goal
 
-pub lead_anew-requires : goal.lead_anew-requires
-lead_anew-requires g c =
-    let p = c.args.plan.now in
-    let z = c.args.crew.now.machine.setup in
-    let h = c.requires.here in
-    record {
-      such = c.requires.such;
-      few = c.requires.few;
-      made = c.requires.made;
-      spot = record {
-        stepped = record {
-          state = h.state;
-          keeps = h.keeps;
-          such = closed.reached_such folded.laws p z h.begun h.state h.reached;
-          sound = closed.reached_sound folded.laws p z h.begun h.state h.reached;
-        };
-        is = h.key;
-      };
-      range = closed.move_in_range p.extras z c.args.doing c.requires.moves;
-    }
+-- the state that is left
+spot_at : (p : Plan) (z : Setup) (v : SpaceValue) (here : Here) (h : IsHere p z v here) → IsSpot z v here.spot
+spot_at p z v here h = record {
+  stepped = record {
+    state = h.state;
+    keeps = h.keeps;
+    such = closed.reached_such folded.laws p z h.begun h.state h.reached;
+    sound = closed.reached_sound folded.laws p z h.begun h.state h.reached;
+  };
+  is = h.key;
+}
 
-pub returns : goal.returns
-returns g c =
-    let p = c.args.plan.now in
-    let z = c.args.crew.now.machine.setup in
-    let v = c.args.space.now in
-    let u = c.lead_anew.new.space in
-    let w = c.note_key.new.self in
+-- nothing is met where a step is remembered
+none_added : (v : SpaceValue) → AddsParts v v
+none_added v = record { grows = grows_self v; keys = refl; folds = refl }
+
+-- to this it led
+abbrev led_of : Key → Option Event → Led
+led_of key event = record { key = key; hash = 0; event = event }
+
+led_by : (p : Plan) (z : Setup) (v : SpaceValue) (here : Here) (h : IsHere p z v here) (made : List (Option Made)) → AreMade z v made
+    → (a : Act) (e : Made) → IsRemembered made here.spot.key a e → (key : Key) → key ≡ then_key e here.spot.key
+    → IsLed z v here.spot.state a (led_of key e.event)
+led_by p z v here h made all a e x key is =
+    remembered_led z v made here.spot a e (led_of key e.event) all (spot_at p z v here h) x is refl
+
+-- where the act led, the state of this number is noted
+module _ (p : Plan) (z : Setup) (begun : IsBegun p z) (plain : p.folds ≡ false) (a : Act) (moves : IsMove p.extras z a)
+    (v u w : SpaceValue) (k : ℕ) (led : Led) (number : ℕ) (more : AddsParts v u) (is : IsLed z u k a led)
+    (e : IsKeyNoted u w led.key number) where
+  of_setup : (s : Machine) → IsReached p z s → IsSuch z s
+  of_setup = closed.reached_such folded.laws p z begun
+
+  noted : (s : Machine) → Keeps v k s → IsReached p z s → IsNoted p z v w k (after s a) number
+  noted s has reached =
+      let m = after s a in
+      let such = of_setup m (closed.reached_then folded.laws p z begun s a reached moves) in
+      let keeps : KeyKeeps u.parts u.shareds led.key m = is.then s (keeps_grown v u more.grows k s has) (of_setup s reached) in
+      let kept : KeyKeeps w.parts w.shareds led.key m = key_grown u w e.grows led.key m keeps in
+      let size = ap (λ (ks : List Key). length ks) more.keys in
+      plain_noted p z begun v w k number m such plain e.there (λ t there kind. e.alike t m there kept kind)
+      (grows_then v u w more.grows e.grows)
+      (λ j high low.
+      let one = e.one j (omega (arith, high, size)) low in
+      (one.0, record { key = led.key; is = one.1; keeps = kept }))
+
+  told : (s : Machine) → Keeps v k s → IsReached p z s → led.event ≡ (next s a).1
+  told s has reached = is.event s (keeps_grown v u more.grows k s has) (of_setup s reached)
+
+pub make_anew-requires-clause-spot : goal.make_anew-requires-clause-spot
+make_anew-requires-clause-spot g c =
     let h = c.requires.here in
-    let k = c.args.here.now.spot.state in
-    let a = c.args.doing in
-    let l = c.in_ok-led.ensures in
-    let led = c.in_ok-led.led in
-    let e = c.in_ok-number.ensures in
-    let size = ap (λ (ks : List Key). length ks) l.states.keys in
-    let all = grows_then v u w l.states.grows e.grows in
-    let of_setup : (s : Machine) → IsReached p z s → IsSuch z s = closed.reached_such folded.laws p z h.begun in
-    record {
-      noted = λ s has reached.
-          let m = after s a in
-          let such = of_setup m (closed.reached_then folded.laws p z h.begun s a reached c.requires.moves) in
-          let keeps : KeyKeeps u.parts u.shareds led.key m =
-          l.led.then s (keeps_grown v u l.states.grows k s has) (of_setup s reached) in
-          let kept : KeyKeeps w.parts w.shareds led.key m = key_grown u w e.grows led.key m keeps in
-          plain_noted p z h.begun v w k c.in_ok-number.number m such c.requires.plain e.there
-          (λ t there kind. e.alike t m there kept kind) all
-          (λ j high low.
-          let one = e.one j (omega (arith, high, size)) low in
-          (one.0, record { key = led.key; is = one.1; keeps = kept }));
-      told = λ s has reached. l.led.event s (keeps_grown v u l.states.grows k s has) (of_setup s reached);
-      such = l.such;
-      made = made_grown z u w e.grows c.lead_anew.new.steps.made.items l.made;
-      helpers = refl;
-    }
+    spot_at c.args.plan.now c.args.crew.now.machine.setup c.args.space.now c.args.here.now h
+
+pub returns-in_ok-number-in-Some-clause-noted : goal.returns-in_ok-number-in-Some-clause-noted
+returns-in_ok-number-in-Some-clause-noted g c =
+    let r = c.requires in
+    let v = c.args.space.now in
+    noted c.args.plan.now c.args.crew.now.machine.setup r.here.begun r.plain c.args.doing r.moves v v c.note_key.new.self
+    c.args.here.now.spot.state (led_of c.change.new.key c.in-Some.made.now.event) c.in_ok-number-in-Some.number (none_added v)
+    (led_by c.args.plan.now c.args.crew.now.machine.setup v c.args.here.now r.here c.args.crew.now.steps.made.items r.made
+    c.args.doing c.in-Some.made.now c.in-Some.ensures c.change.new.key c.change.ensures)
+    c.in_ok-number-in-Some.ensures
+
+pub returns-in_ok-number-in-Some-clause-told : goal.returns-in_ok-number-in-Some-clause-told
+returns-in_ok-number-in-Some-clause-told g c =
+    let r = c.requires in
+    let v = c.args.space.now in
+    told c.args.plan.now c.args.crew.now.machine.setup r.here.begun r.plain c.args.doing r.moves v v c.note_key.new.self
+    c.args.here.now.spot.state (led_of c.change.new.key c.in-Some.made.now.event) c.in_ok-number-in-Some.number (none_added v)
+    (led_by c.args.plan.now c.args.crew.now.machine.setup v c.args.here.now r.here c.args.crew.now.steps.made.items r.made
+    c.args.doing c.in-Some.made.now c.in-Some.ensures c.change.new.key c.change.ensures)
+    c.in_ok-number-in-Some.ensures
+
+pub returns-in_ok-number-in-Some-clause-made : goal.returns-in_ok-number-in-Some-clause-made
+returns-in_ok-number-in-Some-clause-made g c =
+    made_grown c.args.crew.now.machine.setup c.args.space.now c.note_key.new.self c.in_ok-number-in-Some.ensures.grows
+    c.args.crew.now.steps.made.items c.requires.made
+
+pub returns-in_ok-number-in-None-clause-noted : goal.returns-in_ok-number-in-None-clause-noted
+returns-in_ok-number-in-None-clause-noted g c =
+    let r = c.requires in
+    let l = c.in_ok-led-in-None.ensures in
+    noted c.args.plan.now c.args.crew.now.machine.setup r.here.begun r.plain c.args.doing r.moves c.args.space.now
+    c.make_anew.new.space c.note_key-in-None.new.self c.args.here.now.spot.state c.in_ok-led-in-None.led c.in_ok-number-in-None.number l.states
+    l.led c.in_ok-number-in-None.ensures
+
+pub returns-in_ok-number-in-None-clause-told : goal.returns-in_ok-number-in-None-clause-told
+returns-in_ok-number-in-None-clause-told g c =
+    let r = c.requires in
+    let l = c.in_ok-led-in-None.ensures in
+    told c.args.plan.now c.args.crew.now.machine.setup r.here.begun r.plain c.args.doing r.moves c.args.space.now
+    c.make_anew.new.space c.note_key-in-None.new.self c.args.here.now.spot.state c.in_ok-led-in-None.led c.in_ok-number-in-None.number l.states
+    l.led c.in_ok-number-in-None.ensures
+
+pub returns-in_ok-number-in-None-clause-made : goal.returns-in_ok-number-in-None-clause-made
+returns-in_ok-number-in-None-clause-made g c =
+    made_grown c.args.crew.now.machine.setup c.make_anew.new.space c.note_key-in-None.new.self c.in_ok-number-in-None.ensures.grows
+    c.make_anew.new.steps.made.items c.in_ok-led-in-None.ensures.made

@@ -1,21 +1,20 @@
-use Rattle.std.proofs.Common.{arith, ◌≡◌, ◌∙◌, ℕ, Some, ap, inl, inr, subst, sym, true}
+use Rattle.std.proofs.Common.{arith, ◌≡◌, ◌∙◌, ℕ, Some, ap, inl, inr, refl, subst, sym, true}
 use Rattle.std.specs.Prelude.{slice_get}
 use Rattle.std.proofs.lemmas.Bool.{cases_eq}
 use Rattle.lk_rows.specs.Machine.{cpu_at}
 use Rattle.lk_machine.specs.Parts.{is_over}
 use Rattle.lk_reach.specs.Space.{SpaceValue}
-use Rattle.lk_reach.proofs.Kept.{key_there, one_value, part_there}
+use Rattle.lk_reach.proofs.Kept.{one_value, part_there}
 use Rattle.lk_reach.proofs.space.Space.are_over_at.Goals as goal
 
 pub loop-cpu-preserved : goal.loop-cpu-preserved
 loop-cpu-preserved c = λ s has count p low.
     let v = c.args.self.now in
-    let key = c.at-key.result in
+    let key = has.key in
     let n = c.loop-cpu.cpu in
     let inside = c.loop-cpu-test.true in
-    let same = key_there v c.args.state s key has
-    (subst (λ (u : SpaceValue). slice_get u.keys c.args.state ≡ Some key) c.self.view_is c.at-key.ensures) in
-    let there = part_there v c.args.state s key has same n c.part.result (omega (arith, inside, count)) c.part.ensures in
+    let number = c.part.ensures key (subst (λ (u : SpaceValue). slice_get u.keys c.args.state ≡ Some key) (sym c.self.view_is) has.is) in
+    let there = part_there v c.args.state s key has refl n c.part.result (omega (arith, inside, count)) number in
     let is = c.requires.overs.each c.part.result (cpu_at s n) there in
     elim (cases_eq p n) [
       | inl e ↦ subst (λ (q : ℕ). is_over (cpu_at s q) ≡ true) (sym e)
@@ -27,11 +26,10 @@ loop-cpu-preserved c = λ s has count p low.
 pub returns-then-not-is_marked-clause-no : goal.returns-then-not-is_marked-clause-no
 returns-then-not-is_marked-clause-no c = λ no s has count over.
     let v = c.args.self.now in
-    let key = c.at-key.result in
+    let key = has.key in
     let n = c.loop-cpu.cpu in
     let inside = c.loop-cpu-test.true in
-    let same = key_there v c.args.state s key has
-    (subst (λ (u : SpaceValue). slice_get u.keys c.args.state ≡ Some key) c.self.view_is c.at-key.ensures) in
-    let there = part_there v c.args.state s key has same n c.part.result (omega (arith, inside, count)) c.part.ensures in
+    let number = c.part.ensures key (subst (λ (u : SpaceValue). slice_get u.keys c.args.state ≡ Some key) (sym c.self.view_is) has.is) in
+    let there = part_there v c.args.state s key has refl n c.part.result (omega (arith, inside, count)) number in
     let is = c.requires.overs.each c.part.result (cpu_at s n) there in
     c.is_marked.ensures.no c.if-not-is_marked.true (is ∙ ap Some (over n (omega (arith, inside, count))))

@@ -1,9 +1,14 @@
-use Rattle.std.proofs.Common.{arith, ◌≡◌, ◌∙◌, ℕ, Some, ap, length, subst}
-use Rattle.std.specs.Prelude.{slice_get}
+use Rattle.std.proofs.Common.{arith, ◌<◌, ◌∙◌, [], ℕ, ap, get_or, length, subst}
+use Rattle.std.proofs.lemmas.Option.{slice_get-get_or}
+use Rattle.lk_reach.specs.declared.key.Key.{Key}
 use Rattle.lk_reach.specs.Rows.{AreUsed}
 use Rattle.lk_reach.specs.Space.{SpaceValue}
 use Rattle.lk_reach.proofs.apart.Used.{unused, used_then}
 use Rattle.lk_reach.proofs.space.Space.used.Goals as goal
+
+-- any key
+no_key : Key
+no_key = record { shared = 0; cpus = [] }
 
 pub loop-state-init : goal.loop-state-init
 loop-state-init c =
@@ -12,10 +17,15 @@ loop-state-init c =
 
 pub loop-state-preserved : goal.loop-state-preserved
 loop-state-preserved c =
-    let key = c.at-key.result in
-    used_then c.args.self.now c.args.cpus c.loop-state.state key c.loop-state.marks.items c.mark_parts.new.marks.items
-    (subst (λ (u : SpaceValue). slice_get u.keys c.loop-state.state ≡ Some key) c.self.view_is c.at-key.ensures)
-    c.loop-state.invariant c.mark_parts.ensures
+    let v = c.args.self.now in
+    let n = c.loop-state.state in
+    let low : n < length v.keys =
+    (let below = c.loop-state-test.true in let high = c.loop-state.auto.state-end in let count = c.len-state-end.ensures in
+    omega (arith, below, high, count)) in
+    let key = get_or v.keys n no_key in
+    let is = slice_get-get_or v.keys n no_key low in
+    used_then v c.args.cpus n key c.loop-state.marks.items c.mark_parts.new.marks.items is c.loop-state.invariant
+    (c.mark_parts.ensures key is)
 
 pub returns : goal.returns
 returns c =
