@@ -24,9 +24,8 @@ use Rattle.lk_domain.specs.contracts.plan.Plan as Plan
 use Rattle.lk_pvdomain.proofs.PvSeating.{pv_domain_sync}
 use Rattle.lk_pvdomain.proofs.waiter.PvWaiter.TheSendSync as pv_waiter
 use Rattle.lk_pvdomain.specs.contracts.domain.PvDomain as PvDomain
-use Rattle.lk_port.specs.contracts.any_port.AnyPort as AnyPort
 use Rattle.lk_port.specs.contracts.port.Port as Port
-use Rattle.lk_port.specs.contracts.pv_port.PvPort as PvPort
+use Rattle.lk_port.specs.contracts.share.Share as Share
 
 pub plan_send : IsSend Plan.the_row
 plan_send = search (sendable, crosses, list.the_send, topology.the_send, format.the_send, mode.the_send, kind.the_send) depth 40
@@ -35,17 +34,6 @@ pub domain_send : IsSend Domain.the_row
 domain_send =
     search (sendable, crosses, plan_send, table.the_send, table.the_field_send, stowed.the_send, stowed.the_field_send, option.the_send, option.the_field_send, global.the_send, global.the_sync, order.the_send, order.the_sync) depth 40
 
-pub port_send : IsSend Port.the_row
-port_send =
-    search (sendable, crosses, domain_send, domain_sync, cpu.the_send, cpu.the_field_send, waiter.the_send, waiter.the_field_send, reader.the_send, reader.the_field_send, writer.the_send, writer.the_field_send, pending.the_send, pending.the_field_send, last.the_send, last.the_field_send, option.the_send, option.the_field_send, global.the_send, global.the_sync) depth 40
-
--- as a field of another type
-pub port_field_send : IsSend Port.the_field.row
-port_field_send =
-    search (sendable, crosses, port_send, domain_send, domain_sync, cpu.the_send, cpu.the_field_send, waiter.the_send, waiter.the_field_send, reader.the_send, reader.the_field_send, writer.the_send, writer.the_field_send, pending.the_send, pending.the_field_send, last.the_send, last.the_field_send, option.the_send, option.the_field_send, global.the_send, global.the_sync) depth 40
-
--- and where its family halts
-
 domain_field_send : IsSend Domain.the_field.row
 domain_field_send =
     search (sendable, crosses, domain_send, plan_send, table.the_send, table.the_field_send, stowed.the_send, stowed.the_field_send, option.the_send, option.the_field_send, global.the_send, global.the_sync, order.the_send, order.the_sync) depth 40
@@ -53,13 +41,13 @@ domain_field_send =
 pub pv_domain_send : IsSend PvDomain.the_row
 pv_domain_send = search (sendable, crosses, domain_send, domain_field_send) depth 40
 
-pub pv_port_send : IsSend PvPort.the_row
-pv_port_send =
-    search (sendable, crosses, pv_domain_send, pv_domain_sync, cpu.the_send, cpu.the_field_send, pv_waiter.the_send, pv_waiter.the_field_send, list.the_send, option.the_send, option.the_field_send, global.the_send, global.the_sync) depth 40
+pub share_send : IsSend Share.the_row
+share_send = search (sendable, crosses, domain_send, domain_sync, pv_domain_send, pv_domain_sync, global.the_send, global.the_sync) depth 40
 
-pub pv_port_field_send : IsSend PvPort.the_field.row
-pv_port_field_send =
-    search (sendable, crosses, pv_port_send, pv_domain_send, pv_domain_sync, cpu.the_send, cpu.the_field_send, pv_waiter.the_send, pv_waiter.the_field_send, list.the_send, option.the_send, option.the_field_send, global.the_send, global.the_sync) depth 40
+-- as a field of another type
+pub share_field_send : IsSend Share.the_field.row
+share_field_send = search (sendable, crosses, share_send, domain_send, domain_sync, pv_domain_send, pv_domain_sync, global.the_send, global.the_sync) depth 40
 
-pub any_send : IsSend AnyPort.the_row
-any_send = search (sendable, crosses, port_field_send, pv_port_field_send, port_send, pv_port_send) depth 40
+pub port_send : IsSend Port.the_row
+port_send =
+    search (sendable, crosses, share_send, share_field_send, cpu.the_send, cpu.the_field_send, waiter.the_send, waiter.the_field_send, reader.the_send, reader.the_field_send, writer.the_send, writer.the_field_send, pv_waiter.the_send, pv_waiter.the_field_send, pending.the_send, pending.the_field_send, last.the_send, last.the_field_send, list.the_send, option.the_send, option.the_field_send) depth 40

@@ -1,14 +1,12 @@
 -- What new ports are of.
-use Rattle.std.proofs.Common.{◌≡◌, ℕ, ◌+◌, List, [], ◌∷◌, ◌++◌, length, arith, sym, ap, ◌∙◌, subst}
+use Rattle.std.proofs.Common.{◌≡◌, ℕ, ◌+◌, List, [], ◌∷◌, ◌++◌, length, arith, sym, ◌∙◌, subst}
 use Rattle.std.specs.Prelude.{Result, Ok, Err, IfOk}
 use Rattle.lk_names.specs.declared.names.Kind.{Kind}
 use Rattle.lk_names.specs.declared.names.Mode.{Mode}
-use Rattle.lk_domain.specs.Plans.{cpus_of}
 use Rattle.lk_domain.specs.declared.domain.Domain.{Domain}
-use Rattle.lk_domain.specs.declared.plan.Plan.{Plan}
 use Rattle.lk_domain.proofs.seats.Openings.{each_more}
 use Rattle.lk_port.specs.Asking.{cpu_in, domain_in}
-use Rattle.lk_port.specs.Opened.{AreOpened, ArePortsOf, HasPlan, IsPlanFor, IsPortOf}
+use Rattle.lk_port.specs.Opened.{AreOpened, ArePortsOf, IsPlanFor, IsPortOf}
 use Rattle.lk_port.specs.declared.port.Port.{Port}
 
 -- The processor that was the last one dealt is the next port.
@@ -19,25 +17,14 @@ ports_more domain n m ps qs p is h of number many =
     (each_more (IsPortOf domain n) ps p h (record { of = of; cpu = omega (arith, number, many) }))
 
 -- They are ports of a domain that was asked for.
-opens : (m : Mode) (kinds : List Kind) (places : List ℕ) (bound : ℕ) (k : Plan) (ps : List Port) → IsPlanFor m kinds places bound k
-    → length ps ≡ cpus_of k → HasPlan k (cpus_of k) ps → AreOpened m kinds places bound ps
-opens m kinds places bound k ps asked many (domain, same, each) =
+pub opens : {A B : Type 0} (m : Mode) (kinds : List Kind) (places : List ℕ) (bound : ℕ) (domain d : Domain) (n : ℕ) (ports : A → List Port) (r : Result A B)
+    → IsPlanFor m kinds places bound domain.plan → d ≡ domain → n ≡ length places → IfOk r (λ x. length (ports x) ≡ n)
+    → IfOk r (λ x. ArePortsOf d n (ports x)) → IfOk r (λ x. AreOpened m kinds places bound (ports x))
+opens m kinds places bound domain d n ports (Ok x) plan same long many each =
     record {
       domain = domain;
-      plan = record {
-        format = same.format ∙ asked.format;
-        mode = same.mode ∙ asked.mode;
-        locks = same.locks ∙ asked.locks;
-        sockets = same.sockets ∙ asked.sockets;
-        threshold = same.threshold ∙ asked.threshold;
-        accounts = ap length same.balances ∙ asked.accounts;
-      };
-      many = many ∙ ap length asked.sockets;
-      each = subst (λ (n : ℕ). ArePortsOf domain n ps) (ap length asked.sockets) each;
+      plan = plan;
+      many = many ∙ long;
+      each = subst (λ (k : ℕ). ArePortsOf domain k (ports x)) long (subst (λ (e : Domain). ArePortsOf e n (ports x)) same each);
     }
-
-pub opens_all : {A B : Type 0} (m : Mode) (kinds : List Kind) (places : List ℕ) (bound : ℕ) (k : Plan) (ports : A → List Port) (r : Result A B)
-    → IsPlanFor m kinds places bound k → IfOk r (λ x. length (ports x) ≡ cpus_of k) → IfOk r (λ x. HasPlan k (cpus_of k) (ports x))
-    → IfOk r (λ x. AreOpened m kinds places bound (ports x))
-opens_all m kinds places bound k ports (Ok x) asked many each = opens m kinds places bound k (ports x) asked many each
-opens_all m kinds places bound k ports (Err e) asked many each = tt
+opens m kinds places bound domain d n ports (Err e) plan same long many each = tt

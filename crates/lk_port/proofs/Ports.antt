@@ -1,4 +1,4 @@
--- How a processor stands after a call.
+-- How a processor stands after a call, where waiters run.
 use Rattle.std.proofs.Common.{◌≡◌, ◌≢◌, ℕ, ◌+◌, ◌<◌, List, [], ◌∷◌, ◌++◌, length, replicate, set, Bool, true, false, refl, sym, ap, ◌∙◌, subst, eqb, arith}
 use Rattle.std.specs.Prelude.{if◌then◌else◌, ◌&&◌, ◌||◌, not, None, Some, Option, slice_index_or}
 use Rattle.std.proofs.lemmas.Bool.{eqb-true}
@@ -29,13 +29,16 @@ use Rattle.lk_domain.proofs.seats.Exclusive.{hold_way}
 use Rattle.lk_run.specs.Entering.{Leaves}
 use Rattle.lk_run.specs.Phases.{Start, Holds, CameIn}
 use Rattle.lk_port.specs.Asking.{Refuses}
-use Rattle.lk_port.specs.Ports.{IsPending}
-use Rattle.lk_port.specs.Standing.{are_home, way_of, AreNoted, IsIdle, IsLast, IsReady, Stands}
+use Rattle.lk_port.specs.Ports.{IsPending, has_halted}
+use Rattle.lk_port.specs.Shares.{domain_of, may_halt}
+use Rattle.lk_port.specs.Standing.{are_home, way_of, AreNoted, IsIdle, IsLast, IsReady, Stands, StandsRunning}
 use Rattle.lk_port.specs.declared.answer.Answer.{Answer}
 use Rattle.lk_port.specs.declared.last.Last.TheVariants.{Took, Freed, Other}
 use Rattle.lk_port.specs.declared.pending.Pending.{Pending}
 use Rattle.lk_port.specs.declared.pending.Pending.TheVariants.{Free}
 use Rattle.lk_port.specs.declared.port.Port.{Port}
+use Rattle.lk_port.specs.declared.share.Share.{Share}
+use Rattle.lk_port.proofs.Shares.{runs_by}
 
 -- a look that begins or ends leaves the journal where it is
 
@@ -55,11 +58,11 @@ closed_out g n t = pick (is_first n)
 
 -- no value is out
 
-and_left : (a b : Bool) → (a && b) ≡ true → a ≡ true
+pub and_left : (a b : Bool) → (a && b) ≡ true → a ≡ true
 and_left true b e = refl
 and_left false b e = e
 
-and_right : (a b : Bool) → (a && b) ≡ true → b ≡ true
+pub and_right : (a b : Bool) → (a && b) ≡ true → b ≡ true
 and_right true b e = e
 and_right false b e = let z : false ≡ true = e in absurd (cc z)
 
@@ -133,7 +136,7 @@ notes_rw k l b ws long low is =
       far = λ i ne. get_or-set_other ws l i b false ne;
     }
 
-apart : (l i : ℕ) → same_lock (lock_name l) (lock_name i) ≡ false → i ≢ l
+pub apart : (l i : ℕ) → same_lock (lock_name l) (lock_name i) ≡ false → i ≢ l
 apart l i e is =
     let y : same_lock (lock_name l) (lock_name i) ≡ true = ap (λ (j : ℕ). same_lock (lock_name l) (lock_name j)) is ∙ same_lock-self (lock_name l) in
     let z : true ≡ false = sym y ∙ e in
@@ -285,32 +288,36 @@ has_taken d {o} cpu lock {c} {n} {m} {hs} free low kind holds =
       freed = λ x e. let z : Took lock ≡ Freed x = e in absurd (cc z);
     }
 
-pub has_freed : (d : Domain) (o : Pending) (a b : Cpu) (lock : LockId) → IsReady d o a Spin lock.index true → Drops lock.index a b
-    → IsLast d o b (Freed lock)
-has_freed d o a b lock was drop =
+pub has_freed : (d : Domain) {o : Pending} (a b : Cpu) (lock : LockId) → IsReady d o a Spin lock.index true
+    → holds_in (calls_of b).holds lock.index ≡ false → IsLast d o b (Freed lock)
+has_freed d {o} a b lock was none =
     record {
       took = λ x e. let z : Freed lock ≡ Took x = e in absurd (cc z);
       freed = λ x e.
           let is : lock ≡ x = cc e in
           subst (λ (y : LockId). IsReady d o b Spin y.index false) is
-          (record { free = was.free; lock = was.lock; kind = was.kind; holds = drop.freed.none });
+          (record { free = was.free; lock = was.lock; kind = was.kind; holds = none });
     }
 
 -- so a call may begin on that lock
-pub allowed : (d : Domain) (o : Pending) (cpu : Cpu) (k : Kind) (last l : ℕ) (b held : Bool) → IsReady d o cpu Spin last b
-    → eqb last l ≡ true → k ≡ Spin → held ≡ b → IsReady d o cpu k l held
-allowed d o cpu k last l b held was same kind has =
+pub allowed : (d : Domain) (o : Pending) (cpu : Cpu) (last l : ℕ) (b held : Bool) → IsReady d o cpu Spin last b
+    → eqb last l ≡ true → held ≡ b → IsReady d o cpu Spin l held
+allowed d o cpu last l b held was same has =
     let is : last ≡ l = eqb-true last l same in
     record {
       free = was.free;
       lock = subst (λ (n : ℕ). n < locks_of d.plan) is was.lock;
-      kind = ap (λ (n : ℕ). kind_at d.plan n) (sym is) ∙ (was.kind ∙ sym kind);
+      kind = ap (λ (n : ℕ). kind_at d.plan n) (sym is) ∙ was.kind;
       holds = ap (λ (n : ℕ). holds_in (calls_of cpu).holds n) (sym is) ∙ (was.holds ∙ sym has);
     }
 
 -- a call that is refused with one answer, was refused with it
 pub refused : (p : Port) (k : Kind) (l : ℕ) (a b : Answer) → a ≡ b → Refuses p k l a → Refuses p k l b
 refused p k l a b is why = subst (Refuses p k l) is why
+
+-- where waiters run none has halted
+pub not_halted : (p q : Port) → may_halt p.share ≡ false → q.share ≡ p.share → has_halted q ≡ false
+not_halted p q on same = ap (λ (b : Bool). b && (calls_of q.cpu).halted) (ap may_halt same ∙ on)
 
 -- how a lock is held that the port has noted so
 pub way : (k : Plan) (ws : List Bool) (c : Calls) (g : Ledger) (l : ℕ) (b : Bool) → IsIdle k ws c g → kind_at k l ≡ Rw
@@ -333,24 +340,29 @@ pub few : (k : Plan) (ws : List Bool) (c : Calls) (g : Ledger) → IsIdle k ws c
 few k ws c g idle = subst (λ (rs : List Running). length rs < 6) (sym idle.frames) (omega arith)
 
 -- a port no call of which waits
-pub rests : (d : Domain) (ws : List Bool) (o : Pending) (cpu : Cpu) → o ≡ Free → Stands d ws o cpu
-    → IsIdle d.plan ws (calls_of cpu) (ledger_of cpu)
-rests d ws o cpu e h = subst (λ (x : Pending). Stands d ws x cpu) e h
 
-pub stands : (d : Domain) (ws : List Bool) (o : Pending) (cpu : Cpu) → o ≡ Free → IsIdle d.plan ws (calls_of cpu) (ledger_of cpu)
-    → Stands d ws o cpu
-stands d ws o cpu e h = subst (λ (x : Pending). Stands d ws x cpu) (sym e) h
+pub rests : (d : Domain) (ws : List Bool) (o : Pending) (cpu : Cpu) → o ≡ Free → StandsRunning d ws o cpu
+    → IsIdle d.plan ws (calls_of cpu) (ledger_of cpu)
+rests d ws o cpu e h = subst (λ (x : Pending). StandsRunning d ws x cpu) e h
+
+rested : (d : Domain) (ws : List Bool) (o : Pending) (cpu : Cpu) → o ≡ Free → IsIdle d.plan ws (calls_of cpu) (ledger_of cpu)
+    → StandsRunning d ws o cpu
+rested d ws o cpu e h = subst (λ (x : Pending). StandsRunning d ws x cpu) (sym e) h
+
+pub stands : (s : Share) (ws : List Bool) (o : Pending) (cpu : Cpu) → may_halt s ≡ false → o ≡ Free
+    → IsIdle (domain_of s).plan ws (calls_of cpu) (ledger_of cpu) → Stands s ws o cpu
+stands s ws o cpu on e h = runs_by _ _ s on (rested (domain_of s) ws o cpu e h)
 
 -- a call for a spinlock that began so when it rested, and went on, has its lock, or waits
 pub settled : (d : Domain) (ws : List Bool) (lock : LockId) (old new : Pending) (s : Start) (cpu : Cpu) (has : Bool)
     → IsIdle d.plan ws s.calls s.ledger → old ≡ Free → kind_at d.plan lock.index ≡ Spin
     → (has ≡ true → Holds d Lock lock.index Spins s cpu None) → (has ≡ true → new ≡ old) → (has ≡ false → IsPending d lock new s cpu)
-    → Stands d ws new cpu
+    → StandsRunning d ws new cpu
 settled d ws lock old new s cpu true idle free kind holds same waits =
-    stands d ws new cpu (same refl ∙ free) (held d Lock lock.index s cpu None ws idle (holds refl) kind)
+    rested d ws new cpu (same refl ∙ free) (held d Lock lock.index s cpu None ws idle (holds refl) kind)
 settled d ws lock old new s cpu false idle free kind holds same waits =
     let x = waits refl in
-    subst (λ (o : Pending). Stands d ws o cpu) (sym x.1) (s, idle, same_kind d lock x.0.lock x.2 kind, x.3)
+    subst (λ (o : Pending). StandsRunning d ws o cpu) (sym x.1) (s, idle, same_kind d lock x.0.lock x.2 kind, x.3)
 
 -- a new one, of which no lock is noted as a writer's
 pub dealt : {domain : Domain} {i : ℕ} {cpu : Cpu} {ws : List Bool} → ws ≡ replicate (locks_of domain.plan) false

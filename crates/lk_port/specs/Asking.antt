@@ -1,6 +1,5 @@
 -- When a port refuses a call, and when the call may begin.
 use Rattle.std.specs.Prelude.{◌≡◌, ◌≢◌, ℕ, ◌≤◌, Bool, true, false, Option}
-use Rattle.std.specs.Arc.{arc_value}
 use Rattle.lk_names.specs.declared.holder.Manner.{Manner}
 use Rattle.lk_names.specs.declared.names.Kind.{Kind}
 use Rattle.lk_domain.specs.Calls.{holds_in, way_in}
@@ -8,6 +7,7 @@ use Rattle.lk_domain.specs.Plans.{locks_of, kind_at}
 use Rattle.lk_domain.specs.Seats.{calls_of}
 use Rattle.lk_domain.specs.declared.cpu.Cpu.{Cpu}
 use Rattle.lk_domain.specs.declared.domain.Domain.{Domain}
+use Rattle.lk_port.specs.Shares.{domain_of}
 use Rattle.lk_port.specs.Standing.{IsReady}
 use Rattle.lk_port.specs.declared.answer.Answer.{Answer}
 use Rattle.lk_port.specs.declared.answer.Answer.TheVariants as answer
@@ -20,7 +20,7 @@ abbrev pub cpu_in : Port → Cpu
 cpu_in p = p.cpu
 
 abbrev pub domain_in : Port → Domain
-domain_in p = arc_value p.domain
+domain_in p = domain_of p.share
 
 -- whether it holds the lock
 abbrev pub has : Port → ℕ → Bool

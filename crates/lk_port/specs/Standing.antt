@@ -1,5 +1,5 @@
 -- How a processor stands between two calls of its port.
-use Rattle.std.specs.Prelude.{◌≡◌, ℕ, ◌<◌, ◌&&◌, not, Bool, true, false, List, [], ◌∷◌, length, Some, None, slice_index_or}
+use Rattle.std.specs.Prelude.{◌≡◌, ℕ, ◌<◌, ◌&&◌, not, Bool, true, false, List, [], ◌∷◌, length, None, Some, slice_index_or}
 use Rattle.lk_names.specs.declared.holder.Manner.{Manner}
 use Rattle.lk_names.specs.declared.holder.Manner.TheVariants as manner
 use Rattle.lk_names.specs.declared.names.Kind.{Kind}
@@ -12,14 +12,20 @@ use Rattle.lk_domain.specs.declared.cpu.Cpu.{Cpu}
 use Rattle.lk_domain.specs.declared.domain.Domain.{Domain}
 use Rattle.lk_domain.specs.declared.domain.LockId.{LockId}
 use Rattle.lk_domain.specs.declared.plan.Plan.{Plan}
+use Rattle.lk_pvdomain.specs.PvCalls.{IsResting}
+use Rattle.lk_pvdomain.specs.PvPaths as halting
+use Rattle.lk_pvdomain.specs.PvTurns.{Waits}
+use Rattle.lk_pvdomain.specs.declared.domain.PvDomain.{PvDomain}
 use Rattle.lk_run.specs.Phases.{Start}
 use Rattle.lk_run.specs.Polled as locker
 use Rattle.lk_run.specs.PolledRead as reader
 use Rattle.lk_run.specs.PolledWrite as writer
+use Rattle.lk_port.specs.Shares.{By}
 use Rattle.lk_port.specs.declared.last.Last.{Last}
 use Rattle.lk_port.specs.declared.last.Last.TheVariants.{Took, Freed}
 use Rattle.lk_port.specs.declared.pending.Pending.{Pending}
-use Rattle.lk_port.specs.declared.pending.Pending.TheVariants.{Free, Spins, Reads, Writes}
+use Rattle.lk_port.specs.declared.pending.Pending.TheVariants.{Free, Spins, Reads, Writes, Halts}
+use Rattle.lk_port.specs.declared.share.Share.{Share}
 
 -- no value is out with a hold
 abbrev pub are_home : List Hold → Bool
@@ -46,14 +52,35 @@ pub record IsIdle (plan : Plan) (ws : List Bool) (calls : Calls) (ledger : Ledge
   pub noted : AreNoted plan ws calls.holds
 
 -- it rests, or the call waits that began when it was idle
-abbrev pub Stands : Domain → List Bool → Pending → Cpu → Type 0
-Stands d ws Free cpu = IsIdle d.plan ws (calls_of cpu) (ledger_of cpu)
-Stands d ws (Spins w) cpu = (s : Start) × IsIdle d.plan ws s.calls s.ledger
+abbrev pub StandsRunning : Domain → List Bool → Pending → Cpu → Type 0
+StandsRunning d ws Free cpu = IsIdle d.plan ws (calls_of cpu) (ledger_of cpu)
+StandsRunning d ws (Spins w) cpu = (s : Start) × IsIdle d.plan ws s.calls s.ledger
     × (kind_at d.plan w.lock.index ≡ Spin) × locker.Waits d w s cpu
-Stands d ws (Reads w) cpu = (s : Start) × IsIdle d.plan ws s.calls s.ledger
+StandsRunning d ws (Reads w) cpu = (s : Start) × IsIdle d.plan ws s.calls s.ledger
     × (kind_at d.plan w.lock.index ≡ Rw) × reader.Waits d w s cpu
-Stands d ws (Writes w) cpu = (s : Start) × IsIdle d.plan ws s.calls s.ledger
+StandsRunning d ws (Writes w) cpu = (s : Start) × IsIdle d.plan ws s.calls s.ledger
     × (kind_at d.plan w.lock.index ≡ Rw) × writer.Waits d w s cpu
+StandsRunning d ws (Halts w) cpu = ⊥
+
+-- Where waiters halt it has noted of each of so many locks whether it is held.
+pub record AreHeld (n : ℕ) (bs : List Bool) (hs : List Hold) : Type 0 where
+  pub long : length bs ≡ n
+  pub each : (l : ℕ) → l < n → slice_index_or bs l false ≡ holds_in hs l
+
+-- neither the journal nor a value is out with it, and its holds are noted
+pub record IsHome (d : PvDomain) (bs : List Bool) (hs : List Hold) (ledger : Ledger) : Type 0 where
+  pub out : ledger.out ≡ None
+  pub home : are_home hs ≡ true
+  pub noted : AreHeld (locks_of d.domain.plan) bs hs
+
+-- it rests, or the call waits or has halted that began when it was so
+abbrev pub StandsHalting : PvDomain → List Bool → Pending → Cpu → Type 0
+StandsHalting d bs Free cpu = IsResting (calls_of cpu) × IsHome d bs (calls_of cpu).holds (ledger_of cpu)
+StandsHalting d bs (Halts w) cpu = (s : halting.Start) × IsHome d bs s.holds s.ledger × Waits d w s cpu
+StandsHalting d bs _ cpu = ⊥
+
+abbrev pub Stands : Share → List Bool → Pending → Cpu → Type 0
+Stands share notes o cpu = By share (λ d. StandsRunning d notes o cpu) (λ d. StandsHalting d notes o cpu)
 
 -- no call waits, and the lock is one of this kind, which the processor holds or not
 pub record IsReady (d : Domain) (o : Pending) (cpu : Cpu) (k : Kind) (l : ℕ) (held : Bool) : Type 0 where

@@ -1,57 +1,75 @@
 // Whether a call of a port may begin, and looks, which change nothing.
-ghost use Rattle.std.specs.Prelude.{◌≡◌, None, Some, true, false, IfSome};
+ghost use Rattle.std.specs.Prelude.{◌≡◌, ◌<◌, None, Some, true, false, IfSome};
 ghost use Rattle.lk_names.specs.declared.holder.Manner.TheVariants.{Reads, Writes};
-ghost use Rattle.lk_names.specs.declared.names.Kind.TheVariants.{Rw};
-ghost use Rattle.lk_port.specs.Asking.{MayCall, Refuses, has, way};
+ghost use Rattle.lk_names.specs.declared.names.Kind.TheVariants.{Rw, Spin};
+ghost use Rattle.lk_domain.specs.Plans.{locks_of};
+ghost use Rattle.lk_port.specs.Asking.{MayCall, Refuses, domain_in, has, way};
+ghost use Rattle.lk_port.specs.Shares.{may_halt};
 ghost use Rattle.lk_port.specs.declared.answer.Answer.{Answer};
+ghost use Rattle.lk_port.specs.declared.answer.Asked.TheVariants.{Refused, Runs, Halts};
 
-use crate::answer::Answer;
+use crate::answer::{Answer, Asked};
 use crate::last::Last;
 use crate::pending::Pending;
 use crate::port::Port;
-use lk_domain::{Domain, LockId};
+use lk_domain::LockId;
 use lk_names::Kind;
 
 impl Port {
-    // Whether a call may begin on a lock of this kind that the processor holds, or does not, because the
-    // last call took this spinlock, or freed it. A no says nothing.
+    // Whether a call may begin on a spinlock that the processor holds, or does not, because the last call
+    // took this spinlock, or freed it. A no says nothing.
     #[inline]
-    fn last_allows(&self, lock: LockId, kind: Kind, held: bool) -> bool
-        ensures { result ≡ true → MayCall self.now kind lock.index held }
+    fn last_allows(&self, lock: LockId, held: bool) -> bool
+        ensures { result ≡ true → MayCall self.now Spin lock.index held }
     {
-        match kind {
-            Kind::Rw => false,
-            Kind::Spin => match self.last {
-                Last::Took(last) => held && last.index == lock.index,
-                Last::Freed(last) => !held && last.index == lock.index,
-                Last::Other => false,
-            },
+        match self.last {
+            Last::Took(last) => held && last.index == lock.index,
+            Last::Freed(last) => !held && last.index == lock.index,
+            Last::Other => false,
         }
     }
 
+    // Whether a call may begin on a spinlock that the processor holds, or does not, and by whose calls. The
+    // first test is all that a thread meets that takes one lock and frees it, time after time: an atomic
+    // operation waits until the tests before it are done, and what they load waits for the atomic operation
+    // before.
+    #[inline]
+    pub(crate) fn asks(&self, lock: LockId, held: bool) -> Asked
+        ensures runs { result ≡ Runs → MayCall self.now Spin lock.index held
+            × (may_halt self.now.share ≡ false) }
+        ensures halts { result ≡ Halts → MayCall self.now Spin lock.index held
+            × (may_halt self.now.share ≡ true) }
+        ensures why { (a : Answer) → result ≡ Refused a → Refuses self.now Spin lock.index a }
+    {
+        if !self.last_allows(lock, held) {
+            if let Some(answer) = self.refuses(lock, Kind::Spin, held) {
+                return Asked::Refused(answer);
+            }
+        }
+        if self.share.halts() {
+            return Asked::Halts;
+        }
+        Asked::Runs
+    }
+
     // Why no call may begin on a lock of this kind that the processor holds, or does not, if there is
-    // a reason. The first test is all that a thread meets that takes one lock and frees it, time after
-    // time: an atomic operation waits until the tests before it are done, and what they load waits for
-    // the atomic operation before.
+    // a reason.
     #[inline]
     pub(crate) fn refuses(&self, lock: LockId, kind: Kind, held: bool) -> Option<Answer>
         ensures may { result ≡ None → MayCall self.now kind lock.index held }
         ensures why { (a : Answer) → result ≡ Some a → Refuses self.now kind lock.index a }
     {
-        if self.last_allows(lock, kind, held) {
-            return None;
-        }
         if !matches!(self.pending, Pending::Free) {
             return Some(Answer::Pending);
         }
-        let domain: &Domain = &self.domain;
+        let domain = self.share.domain();
         if lock.index >= domain.locks() {
             return Some(Answer::NoLock);
         }
         if domain.kind(lock) != kind {
             return Some(Answer::WrongKind);
         }
-        let holds = self.cpu.holds(lock);
+        let holds = self.has(lock);
         if holds && !held {
             return Some(Answer::Held);
         }
@@ -61,14 +79,35 @@ impl Port {
         None
     }
 
+    // Whether it holds a lock of its domain.
+    #[inline]
+    fn has(&self, lock: LockId) -> bool
+        requires { lock.index < locks_of (domain_in self.now).plan }
+        ensures { result ≡ has self.now lock.index }
+    {
+        if self.share.halts() {
+            self.stands();
+            return *self.notes.get(lock.index as usize);
+        }
+        self.cpu.holds(lock)
+    }
+
     // Whether it is the writer of a reader-writer lock that it is in.
     pub(crate) fn is_writing(&self, lock: LockId) -> bool
         requires may { MayCall self.now Rw lock.index true }
         ensures writes { result ≡ true → way self.now lock.index ≡ Some Writes }
         ensures reads { result ≡ false → way self.now lock.index ≡ Some Reads }
     {
-        self.stands();
-        *self.writes.get(lock.index as usize)
+        self.runs();
+        *self.notes.get(lock.index as usize)
+    }
+
+    /// Whether its family's waiters halt.
+    #[inline]
+    pub fn may_halt(&self) -> bool
+        ensures { result ≡ may_halt self.now.share }
+    {
+        self.share.halts()
     }
 
     /// Whether it holds no lock, and no call of it waits.
@@ -76,9 +115,8 @@ impl Port {
         if !matches!(self.pending, Pending::Free) {
             return false;
         }
-        let domain: &Domain = &self.domain;
-        for index in 0..domain.locks() {
-            if self.cpu.holds(LockId { index }) {
+        for index in 0..self.share.domain().locks() {
+            if self.has(LockId { index }) {
                 return false;
             }
         }
@@ -89,17 +127,16 @@ impl Port {
     pub fn holds(&self, lock: LockId) -> Option<bool>
         ensures { IfSome result (λ yes. yes ≡ has self.now lock.index) }
     {
-        let domain: &Domain = &self.domain;
-        if lock.index >= domain.locks() {
+        if lock.index >= self.share.domain().locks() {
             return None;
         }
-        Some(self.cpu.holds(lock))
+        Some(self.has(lock))
     }
 
     /// Whether somebody holds the lock; `None` where the domain has no such lock. It may have changed
     /// when this returns. No clause says what this tells: tests do.
     pub fn is_locked(&self, lock: LockId) -> Option<bool> {
-        let domain: &Domain = &self.domain;
+        let domain = self.share.domain();
         if lock.index >= domain.locks() {
             return None;
         }
@@ -110,10 +147,17 @@ impl Port {
     /// who wait for a spinlock leave no mark in its word, and this is false. It may have changed when
     /// this returns. No clause says what this tells: tests do.
     pub fn is_contended(&self, lock: LockId) -> Option<bool> {
-        let domain: &Domain = &self.domain;
+        let domain = self.share.domain();
         if lock.index >= domain.locks() {
             return None;
         }
         Some(domain.is_contended(lock))
+    }
+
+    /// Whether a kick of the processor is remembered: where its call has halted, the next poll goes on. Of a
+    /// family whose waiters run nobody is kicked. It may have changed when this returns. No clause says
+    /// what this tells: tests do.
+    pub fn is_kicked(&self) -> bool {
+        self.share.halts() && self.share.halting().is_kicked(self.cpu.number())
     }
 }

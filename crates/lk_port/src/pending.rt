@@ -1,5 +1,6 @@
 // The call of a port that waits.
 
+use lk_pvdomain::PvWaiter;
 use lk_run::{ReadWaiter, Waiter, WriteWaiter};
 
 /// The call of a port that waits, if there is one.
@@ -13,4 +14,6 @@ pub enum Pending {
     Reads(ReadWaiter),
     /// A writer's.
     Writes(WriteWaiter),
+    /// One for a spinlock of a family whose waiters halt. It may have halted.
+    Halts(PvWaiter),
 }

@@ -1,38 +1,48 @@
 // A processor with its domain.
-ghost use Rattle.std.specs.Prelude.{◌≡◌};
-ghost use Rattle.std.specs.Arc.{arc_value};
-ghost use Rattle.lk_domain.specs.Seats.{IsOf};
-ghost use Rattle.lk_port.specs.Standing.{IsLast, Stands};
+ghost use Rattle.std.specs.Prelude.{◌≡◌, false};
+ghost use Rattle.lk_domain.specs.Seats as seats;
+ghost use Rattle.lk_port.specs.Shares.{IsOf, domain_of, may_halt};
+ghost use Rattle.lk_port.specs.Standing.{IsLast, Stands, StandsRunning};
 
 use crate::last::Last;
 use crate::pending::Pending;
-use lk_domain::{Cpu, Domain};
+use crate::share::Share;
+use lk_domain::Cpu;
 use lk_names::List;
-use std::alloc::Global;
-use std::sync::Arc;
 
 /// The right to step of a processor, and a share of its domain.
 #[derive(Drop)]
 pub struct Port {
-    pub(crate) domain: Arc<Domain, Global>,
+    pub(crate) share: Share,
     // These two stand before the processor, at whose end a line of the cache is unused: ports may lie side
     // by side, and each call stores here, or each poll.
     pub(crate) pending: Pending,
     pub(crate) last: Last,
     pub(crate) cpu: Cpu,
-    // of each lock that it holds, whether it holds it as a writer
-    pub(crate) writes: List<bool>,
-    ghost of: { IsOf cpu (arc_value domain) },
-    ghost lasts: { IsLast (arc_value domain) pending cpu last },
-    ghost stands: { ∥ Stands (arc_value domain) writes.items pending cpu ∥₁ },
+    // of each lock that it holds, whether it holds it as a writer; and of each lock whether it holds it,
+    // where its family halts, since then its processor notes nothing
+    pub(crate) notes: List<bool>,
+    ghost of: { IsOf cpu share },
+    ghost lasts: { IsLast (domain_of share) pending cpu last },
+    ghost stands: { ∥ Stands share notes.items pending cpu ∥₁ },
 }
 
 impl Port {
     // How it stands. A field keeps that as a fact alone, and this takes it out again.
     pub(crate) fn stands(&self)
-        ensures { Stands (arc_value self.now.domain) self.now.writes.items self.now.pending
-            self.now.cpu }
+        ensures { Stands self.now.share self.now.notes.items self.now.pending self.now.cpu }
     {}
+
+    // The same where its family's waiters run.
+    pub(crate) fn runs(&self)
+        requires { may_halt self.now.share ≡ false }
+        ensures runs { may_halt self.now.share ≡ false }
+        ensures of { seats.IsOf self.now.cpu (domain_of self.now.share) }
+        ensures stands { StandsRunning (domain_of self.now.share) self.now.notes.items
+            self.now.pending self.now.cpu }
+    {
+        self.stands();
+    }
 
     /// Its number, counted from 0.
     pub fn number(&self) -> u32

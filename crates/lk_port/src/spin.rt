@@ -1,6 +1,5 @@
-// The calls on a spinlock.
+// The calls on a spinlock: what they answer in each family, and what they do where its waiters run.
 ghost use Rattle.std.specs.Prelude.{◌≡◌, ◌≢◌, ◌<◌, None, Some, true, false};
-ghost use Rattle.std.specs.Arc.{arc_value};
 ghost use Rattle.lk_names.specs.declared.holder.Manner.TheVariants.{Spins};
 ghost use Rattle.lk_names.specs.declared.names.Kind.TheVariants.{Spin};
 ghost use Rattle.lk_rows.specs.declared.setup.Verb.TheVariants.{Lock, Try};
@@ -9,32 +8,41 @@ ghost use Rattle.lk_domain.specs.Seats.{IsOf, KeepsRest};
 ghost use Rattle.lk_run.specs.Phases.{Start, Holds};
 ghost use Rattle.lk_run.specs.Polled.{Arrived};
 ghost use Rattle.lk_port.specs.Asking.{MayCall, Refuses};
-ghost use Rattle.lk_port.specs.Ports.{HasTried, HasMissed, HasLocked, HasUnlocked, IsPending};
-ghost use Rattle.lk_port.specs.declared.answer.Answer.TheVariants.{Done, Busy, Waits};
+ghost use Rattle.lk_port.specs.Ports.{Frees, Locks, Misses, Stays, Tries};
+ghost use Rattle.lk_port.specs.Ports.{HasLocked, HasMissed, HasTried, HasUnlocked, IsPending};
+ghost use Rattle.lk_port.specs.Ports.{has_halted, is_turn};
+ghost use Rattle.lk_port.specs.Shares.{domain_of, may_halt};
+ghost use Rattle.lk_port.specs.declared.answer.Answer.TheVariants.{Again, Busy, Done, Halts, Waits};
 
-use crate::answer::Answer;
+use crate::answer::{Answer, Asked, Freed};
 use crate::last::Last;
 use crate::pending::Pending;
 use crate::port::Port;
-use lk_domain::{Cpu, Domain, LockId};
-use lk_names::Kind;
+use crate::share::Share;
+use lk_domain::{Cpu, LockId};
+use lk_pvdomain::PvRelease;
 use lk_run::Arrival;
-use std::alloc::Global;
-use std::sync::Arc;
 
 impl Port {
     /// Takes a spinlock if it is free and nobody waits for it. It never waits.
     pub fn try_lock(&mut self, lock: LockId) -> Answer
-        ensures domain { self.new.domain ≡ self.old.domain }
-        ensures taken { result ≡ Done → HasTried Try Spins lock.index self.old self.new }
-        ensures missed { result ≡ Busy → HasMissed Try lock.index self.old self.new }
+        ensures domain { self.new.share ≡ self.old.share }
+        ensures taken { result ≡ Done → Tries lock.index self.old self.new }
+        ensures missed { result ≡ Busy → Misses lock.index self.old self.new }
         ensures same { result ≢ Done → result ≢ Busy → self.new ≡ self.old }
         ensures why { result ≢ Done → result ≢ Busy → Refuses self.old Spin lock.index result }
     {
-        match self.refuses(lock, Kind::Spin, false) {
-            Some(answer) => answer,
-            None => {
+        match self.asks(lock, false) {
+            Asked::Refused(answer) => answer,
+            Asked::Runs => {
                 if self.tries(lock) {
+                    Answer::Done
+                } else {
+                    Answer::Busy
+                }
+            }
+            Asked::Halts => {
+                if self.tries_halting(lock) {
                     Answer::Done
                 } else {
                     Answer::Busy
@@ -46,14 +54,14 @@ impl Port {
     // True: it has it.
     fn tries(&mut self, lock: LockId) -> bool
         requires may { MayCall self.old Spin lock.index false }
-        ensures domain { self.new.domain ≡ self.old.domain }
+        requires runs { may_halt self.old.share ≡ false }
+        ensures domain { self.new.share ≡ self.old.share }
         ensures taken { result ≡ true → HasTried Try Spins lock.index self.old self.new }
         ensures missed { result ≡ false → HasMissed Try lock.index self.old self.new }
     {
-        self.stands();
+        self.runs();
         self.last = Last::Other;
-        let domain: &Domain = &self.domain;
-        let has = lk_run::try_lock(&mut self.cpu, domain, lock);
+        let has = lk_run::try_lock(&mut self.cpu, self.share.domain(), lock);
         if has {
             self.last = Last::Took(lock);
         }
@@ -61,77 +69,86 @@ impl Port {
     }
 
     /// Begins to acquire a spinlock. `Done` says that the processor holds it, `Waits` that the caller
-    /// is to poll until it does. It never waits.
+    /// is to poll until it does, and `Halts` that its next turn comes once the processor is kicked. It
+    /// never waits.
     #[inline(always)]
     pub fn begin(&mut self, lock: LockId) -> Answer
-        ensures domain { self.new.domain ≡ self.old.domain }
-        ensures taken { result ≡ Done → HasLocked lock.index self.old self.new }
-        ensures same { result ≢ Done → result ≢ Waits → self.new ≡ self.old }
-        ensures why { result ≢ Done → result ≢ Waits → Refuses self.old Spin lock.index result }
+        ensures domain { self.new.share ≡ self.old.share }
+        ensures taken { result ≡ Done → Locks lock.index self.old self.new }
+        ensures halts { result ≡ Halts → has_halted self.new ≡ true }
+        ensures waits { result ≡ Waits → has_halted self.new ≡ false }
+        ensures same { is_turn result ≡ false → self.new ≡ self.old }
+        ensures why { is_turn result ≡ false → Refuses self.old Spin lock.index result }
     {
-        match self.refuses(lock, Kind::Spin, false) {
-            Some(answer) => answer,
-            None => {
+        match self.asks(lock, false) {
+            Asked::Refused(answer) => answer,
+            Asked::Runs => {
                 if self.begins(lock) {
                     Answer::Done
                 } else {
                     Answer::Waits
                 }
             }
+            Asked::Halts => self.begins_halting(lock),
         }
     }
 
     // True: it has it. False: the call waits.
     fn begins(&mut self, lock: LockId) -> bool
         requires may { MayCall self.old Spin lock.index false }
-        ensures domain { self.new.domain ≡ self.old.domain }
+        requires runs { may_halt self.old.share ≡ false }
+        ensures domain { self.new.share ≡ self.old.share }
         ensures taken { result ≡ true → HasLocked lock.index self.old self.new }
     {
-        self.stands();
-        let domain: &Domain = &self.domain;
-        match lk_run::arrive(&mut self.cpu, domain, lock) {
+        self.runs();
+        match lk_run::arrive(&mut self.cpu, self.share.domain(), lock) {
             None => {
                 self.last = Last::Took(lock);
                 true
             }
             Some(arrival) => {
                 self.last = Last::Other;
-                settles(
-                    &mut self.cpu,
-                    &self.domain,
-                    lock,
-                    arrival,
-                    &mut self.pending,
-                )
+                settles(&mut self.cpu, &self.share, lock, arrival, &mut self.pending)
             }
         }
     }
 
-    /// Frees a spinlock that the processor holds.
+    /// Frees a spinlock that the processor holds, and says which processor it has kicked. `Again` says
+    /// that others came to the lock at each of its tries, so that the processor holds it as before: that
+    /// can be where the family's waiters halt. By the rows there are always enough tries, but no proof
+    /// counts them. It never waits.
     #[inline(always)]
-    pub fn unlock(&mut self, lock: LockId) -> Answer
-        ensures domain { self.new.domain ≡ self.old.domain }
-        ensures freed { result ≡ Done → HasUnlocked lock.index self.old self.new }
-        ensures same { result ≢ Done → self.new ≡ self.old }
-        ensures why { result ≢ Done → Refuses self.old Spin lock.index result }
+    pub fn unlock(&mut self, lock: LockId) -> Freed
+        ensures domain { self.new.share ≡ self.old.share }
+        ensures freed { result.answer ≡ Done → Frees lock.index self.old self.new }
+        ensures again { result.answer ≡ Again → Stays self.old self.new }
+        ensures same { result.answer ≢ Done → result.answer ≢ Again → self.new ≡ self.old }
+        ensures why { result.answer ≢ Done → result.answer ≢ Again
+            → Refuses self.old Spin lock.index result.answer }
     {
-        match self.refuses(lock, Kind::Spin, true) {
-            Some(answer) => answer,
-            None => {
+        let (answer, kicked) = match self.asks(lock, true) {
+            Asked::Refused(answer) => (answer, None),
+            Asked::Runs => {
                 self.frees(lock);
-                Answer::Done
+                (Answer::Done, None)
             }
-        }
+            Asked::Halts => match self.frees_halting(lock) {
+                PvRelease::Freed => (Answer::Done, None),
+                PvRelease::Kicked(number) => (Answer::Done, Some(number)),
+                PvRelease::Still => (Answer::Again, None),
+            },
+        };
+        Freed { answer, kicked }
     }
 
     fn frees(&mut self, lock: LockId)
         requires may { MayCall self.old Spin lock.index true }
-        ensures domain { self.new.domain ≡ self.old.domain }
+        requires runs { may_halt self.old.share ≡ false }
+        ensures domain { self.new.share ≡ self.old.share }
         ensures freed { HasUnlocked lock.index self.old self.new }
     {
-        self.stands();
-        let domain: &Domain = &self.domain;
-        lk_run::unlock(&mut self.cpu, domain, lock);
+        self.runs();
+        lk_run::unlock(&mut self.cpu, self.share.domain(), lock);
         self.last = Last::Freed(lock);
     }
 }
@@ -143,25 +160,24 @@ impl Port {
 #[inline(never)]
 fn settles(
     cpu: &mut Cpu,
-    domain: &Arc<Domain, Global>,
+    share: &Share,
     lock: LockId,
     arrival: Arrival,
     pending: &mut Pending,
 ) -> bool
-    requires domain { IsOf cpu.old (arc_value domain.now) }
-    requires lock { lock.index < locks_of (arc_value domain.now).plan }
-    requires begun { (s : Start) × Arrived (arc_value domain.now) lock.index arrival.met s cpu.old }
+    requires domain { IsOf cpu.old (domain_of share.now) }
+    requires lock { lock.index < locks_of (domain_of share.now).plan }
+    requires begun { (s : Start) × Arrived (domain_of share.now) lock.index arrival.met s cpu.old }
     ensures rest { KeepsRest cpu.old cpu.new }
     ensures holds { result ≡ true → (s : Start)
-        → Arrived (arc_value domain.now) lock.index arrival.met s cpu.old
-        → Holds (arc_value domain.now) Lock lock.index Spins s cpu.new None }
+        → Arrived (domain_of share.now) lock.index arrival.met s cpu.old
+        → Holds (domain_of share.now) Lock lock.index Spins s cpu.new None }
     ensures same { result ≡ true → pending.new ≡ pending.old }
     ensures waits { result ≡ false → (s : Start)
-        → Arrived (arc_value domain.now) lock.index arrival.met s cpu.old
-        → IsPending (arc_value domain.now) lock pending.new s cpu.new }
+        → Arrived (domain_of share.now) lock.index arrival.met s cpu.old
+        → IsPending (domain_of share.now) lock pending.new s cpu.new }
 {
-    let domain: &Domain = domain;
-    match lk_run::settle(cpu, domain, lock, arrival) {
+    match lk_run::settle(cpu, share.domain(), lock, arrival) {
         None => true,
         Some(waiter) => {
             *pending = Pending::Spins(waiter);

@@ -5,23 +5,23 @@ ghost use Rattle.lk_names.specs.declared.names.Kind.TheVariants.{Rw};
 ghost use Rattle.lk_rows.specs.declared.parts.Pc.TheVariants.{Z2};
 ghost use Rattle.lk_rows.specs.declared.setup.Verb.TheVariants.{Write, TryWrite};
 ghost use Rattle.lk_port.specs.Asking.{MayCall, Refuses, way};
-ghost use Rattle.lk_port.specs.Ports.{HasTried, HasMissed, HasEntered, HasLeft};
+ghost use Rattle.lk_port.specs.Ports.{Enters, EntersAtOnce, Leaves, MissesEntry};
 ghost use Rattle.lk_port.specs.declared.answer.Answer.TheVariants.{Done, Busy, Waits, WrongManner};
 
 use crate::answer::Answer;
 use crate::last::Last;
 use crate::pending::Pending;
 use crate::port::Port;
-use lk_domain::{Domain, LockId};
+use lk_domain::LockId;
 use lk_names::Kind;
 
 impl Port {
     /// Enters a reader-writer lock as its writer if nobody is in it and no writer waits at its head. It
     /// never waits.
     pub fn try_write(&mut self, lock: LockId) -> Answer
-        ensures domain { self.new.domain ≡ self.old.domain }
-        ensures taken { result ≡ Done → HasTried TryWrite Writes lock.index self.old self.new }
-        ensures missed { result ≡ Busy → HasMissed TryWrite lock.index self.old self.new }
+        ensures domain { self.new.share ≡ self.old.share }
+        ensures taken { result ≡ Done → EntersAtOnce TryWrite Writes lock.index self.old self.new }
+        ensures missed { result ≡ Busy → MissesEntry TryWrite lock.index self.old self.new }
         ensures same { result ≢ Done → result ≢ Busy → self.new ≡ self.old }
         ensures why { result ≢ Done → result ≢ Busy → Refuses self.old Rw lock.index result }
     {
@@ -40,16 +40,15 @@ impl Port {
     // True: it is in.
     fn tries_to_write(&mut self, lock: LockId) -> bool
         requires may { MayCall self.old Rw lock.index false }
-        ensures domain { self.new.domain ≡ self.old.domain }
-        ensures taken { result ≡ true → HasTried TryWrite Writes lock.index self.old self.new }
-        ensures missed { result ≡ false → HasMissed TryWrite lock.index self.old self.new }
+        ensures domain { self.new.share ≡ self.old.share }
+        ensures taken { result ≡ true → EntersAtOnce TryWrite Writes lock.index self.old self.new }
+        ensures missed { result ≡ false → MissesEntry TryWrite lock.index self.old self.new }
     {
-        self.stands();
+        self.runs();
         self.last = Last::Other;
-        let domain: &Domain = &self.domain;
-        let has = lk_run::try_write(&mut self.cpu, domain, lock);
+        let has = lk_run::try_write(&mut self.cpu, self.share.domain(), lock);
         if has {
-            *self.writes.get_mut(lock.index as usize) = true;
+            *self.notes.get_mut(lock.index as usize) = true;
         }
         has
     }
@@ -57,8 +56,8 @@ impl Port {
     /// Begins to enter a reader-writer lock as its writer. `Done` says that the processor is in it,
     /// `Waits` that the caller is to poll until it is. It never waits.
     pub fn begin_write(&mut self, lock: LockId) -> Answer
-        ensures domain { self.new.domain ≡ self.old.domain }
-        ensures entered { result ≡ Done → HasEntered Write Writes lock.index self.old self.new }
+        ensures domain { self.new.share ≡ self.old.share }
+        ensures entered { result ≡ Done → Enters Write Writes lock.index self.old self.new }
         ensures same { result ≢ Done → result ≢ Waits → self.new ≡ self.old }
         ensures why { result ≢ Done → result ≢ Waits → Refuses self.old Rw lock.index result }
     {
@@ -77,15 +76,14 @@ impl Port {
     // True: it is in. False: the call waits.
     fn begins_to_write(&mut self, lock: LockId) -> bool
         requires may { MayCall self.old Rw lock.index false }
-        ensures domain { self.new.domain ≡ self.old.domain }
-        ensures entered { result ≡ true → HasEntered Write Writes lock.index self.old self.new }
+        ensures domain { self.new.share ≡ self.old.share }
+        ensures entered { result ≡ true → Enters Write Writes lock.index self.old self.new }
     {
-        self.stands();
+        self.runs();
         self.last = Last::Other;
-        let domain: &Domain = &self.domain;
-        match lk_run::begin_write(&mut self.cpu, domain, lock) {
+        match lk_run::begin_write(&mut self.cpu, self.share.domain(), lock) {
             None => {
-                *self.writes.get_mut(lock.index as usize) = true;
+                *self.notes.get_mut(lock.index as usize) = true;
                 true
             }
             Some(waiter) => {
@@ -98,8 +96,8 @@ impl Port {
     /// Leaves a reader-writer lock that the processor is in as its writer. `WrongManner` says that it
     /// is in it as a reader.
     pub fn write_unlock(&mut self, lock: LockId) -> Answer
-        ensures domain { self.new.domain ≡ self.old.domain }
-        ensures left { result ≡ Done → HasLeft Z2 lock.index self.old self.new }
+        ensures domain { self.new.share ≡ self.old.share }
+        ensures left { result ≡ Done → Leaves Z2 lock.index self.old self.new }
         ensures same { result ≢ Done → self.new ≡ self.old }
         ensures manner { result ≡ WrongManner → way self.old lock.index ≡ Some Reads }
         ensures why { result ≢ Done → result ≢ WrongManner → Refuses self.old Rw lock.index result }
@@ -119,12 +117,11 @@ impl Port {
     fn ends_writing(&mut self, lock: LockId)
         requires may { MayCall self.old Rw lock.index true }
         requires way { way self.old lock.index ≡ Some Writes }
-        ensures domain { self.new.domain ≡ self.old.domain }
-        ensures left { HasLeft Z2 lock.index self.old self.new }
+        ensures domain { self.new.share ≡ self.old.share }
+        ensures left { Leaves Z2 lock.index self.old self.new }
     {
-        self.stands();
+        self.runs();
         self.last = Last::Other;
-        let domain: &Domain = &self.domain;
-        lk_run::write_unlock(&mut self.cpu, domain, lock);
+        lk_run::write_unlock(&mut self.cpu, self.share.domain(), lock);
     }
 }

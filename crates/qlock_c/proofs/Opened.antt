@@ -5,12 +5,8 @@ use Rattle.std.proofs.lemmas.Bool.{cases_Bool, eqb-true, eq-eqb, true≢false}
 use Rattle.std.proofs.lemmas.Option.{none-some, same_Some}
 use Rattle.lk_names.proofs.Places.{slice_get-set_same, slice_get-set_other}
 use Rattle.lk_domain.specs.declared.domain.Domain.{Domain}
-use Rattle.lk_pvdomain.specs.declared.domain.PvDomain.{PvDomain}
 use Rattle.lk_port.specs.Opened.{ArePortsOf, IsPortOf}
-use Rattle.lk_port.specs.PvOpened.{PvArePortsOf, PvIsPortOf}
 use Rattle.lk_port.specs.declared.port.Port.{Port}
-use Rattle.qlock_c.specs.Opened.{family_numbered}
-use Rattle.lk_port.specs.declared.pv_port.PvPort.{PvPort}
 
 -- a place with an item is within the list, and an index reads the item
 pub within : {X : Type 0} (xs : List X) (i : ℕ) (x : X) → slice_get xs i ≡ Some x → i < length xs
@@ -87,20 +83,3 @@ fewer_ports domain n ps p h i d low =
 pub last_port : (domain : Domain) (n : ℕ) (ps : List Port) (p : Port) → ArePortsOf domain n (ps ++ p ∷ []) → IsPortOf domain n (length ps) p
 last_port domain n ps p h =
     subst (IsPortOf domain n (length ps)) (last_of ps p p) (h (length ps) p (omega (arith, length-append ps (p ∷ []))))
-
--- the same, where waiters halt
-
-pub fewer_halting : (domain : PvDomain) (n : ℕ) (ps : List PvPort) (p : PvPort) → PvArePortsOf domain n (ps ++ p ∷ []) → PvArePortsOf domain n ps
-fewer_halting domain n ps p h i d low =
-    subst (PvIsPortOf domain n i) (before_last ps p d i low) (h i d (omega (arith, low, length-append ps (p ∷ []))))
-
-pub last_halting : (domain : PvDomain) (n : ℕ) (ps : List PvPort) (p : PvPort) → PvArePortsOf domain n (ps ++ p ∷ []) → PvIsPortOf domain n (length ps) p
-last_halting domain n ps p h =
-    subst (PvIsPortOf domain n (length ps)) (last_of ps p p) (h (length ps) p (omega (arith, length-append ps (p ∷ []))))
-
--- a number up to 3 that no other family has
-pub is_pv : (n : ℕ) → family_numbered n ≡ None → n ≤ 3 → n ≡ 3
-is_pv zero e low = absurd (let z : ⊥ = cc e in z)
-is_pv (suc zero) e low = absurd (let z : ⊥ = cc e in z)
-is_pv (suc (suc zero)) e low = absurd (let z : ⊥ = cc e in z)
-is_pv (suc (suc (suc n))) e low = omega (arith, low)

@@ -1,10 +1,10 @@
 // A box with a port, as C has it: its pointer. What a handle owns is dropped by taking the box out.
 ghost use Rattle.std.specs.Prelude.{◌≡◌, Option, Some, None};
-ghost use Rattle.lk_port.specs.declared.any_port.AnyPort.{AnyPort};
+ghost use Rattle.lk_port.specs.declared.port.Port.{Port};
 ghost use Rattle.qlock_c.specs.Own.{sealed_owns, sealed_coded};
 
 use lk_parcel::Parcel;
-use lk_port::AnyPort;
+use lk_port::Port;
 use std::alloc::Global;
 use std::marker::Model;
 
@@ -13,7 +13,7 @@ use std::marker::Model;
 pub struct Handle {
     pub(crate) at: *mut u8,
     pub(crate) alloc: Global,
-    pub ghost inner: { Option AnyPort } by { sealed_coded },
+    pub ghost inner: { Option Port } by { sealed_coded },
 }
 
 impl Model for Handle {
@@ -31,7 +31,7 @@ impl Handle {
         }
     }
 
-    pub(crate) fn of_parcel(parcel: Parcel<AnyPort, Global>) -> Handle
+    pub(crate) fn of_parcel(parcel: Parcel<Port, Global>) -> Handle
         ensures { result.inner ≡ Some parcel.value }
     {
         let Parcel { at, alloc } = parcel;
@@ -41,13 +41,13 @@ impl Handle {
         }
     }
 
-    pub(crate) fn into_parcel(self) -> Parcel<AnyPort, Global>
-        requires { (x : AnyPort) × (self.inner ≡ Some x) }
+    pub(crate) fn into_parcel(self) -> Parcel<Port, Global>
+        requires { (x : Port) × (self.inner ≡ Some x) }
         ensures { self.inner ≡ Some result.value }
     {
         let Handle { at, alloc } = self;
         Parcel {
-            at: at.cast::<AnyPort>(),
+            at: at.cast::<Port>(),
             alloc,
         }
     }
@@ -61,12 +61,12 @@ impl Handle {
 
     // The port that it has. It stays where it is, so that a call writes nothing into the handle.
     #[inline]
-    pub(crate) fn port_mut(&mut self) -> &mut AnyPort
+    pub(crate) fn port_mut(&mut self) -> &mut Port
         requires { is_full self.old.inner ≡ true }
         ensures* writes_back { sem 𝓛 (LendsPort self.entry result) }
         ensures value { self.old.inner ≡ Some result.now }
     {
-        unsafe { &mut *self.at.cast::<AnyPort>() }
+        unsafe { &mut *self.at.cast::<Port>() }
     }
 }
 

@@ -10,7 +10,6 @@ mod handle;
 mod looks;
 mod opening;
 mod processor;
-mod pv_opening;
 mod read;
 mod spin;
 mod write;

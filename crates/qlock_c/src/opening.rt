@@ -2,19 +2,15 @@
 ghost use Rattle.std.specs.Prelude.{◌≡◌, ◌≢◌, ◌≤◌, ◌⊎◌, IfOk, length, map, true};
 ghost use Rattle.lk_domain.specs.declared.domain.Domain.{Domain};
 ghost use Rattle.lk_port.specs.Opened.{ArePortsOf};
-ghost use Rattle.qlock_c.specs.Opened.{AreEmpty, AreHandlesOf, AreOpen, AreRunning};
+ghost use Rattle.qlock_c.specs.Opened.{AreEmpty, AreHandlesOf, AreOpen, ArePorts};
 ghost use Rattle.qlock_c.specs.Opened.{family_numbered, kind_numbered};
 
 use crate::codes::{IN_USE, MEMORY, RANGE, fault_code};
 use crate::processor::{Processor, put, take};
-use crate::pv_opening::open_halting;
 use lk_domain::{MOST_CPUS, MOST_LOCKS};
 use lk_names::{Kind, List, Memory};
-use lk_port::{AnyPort, Family, Port, open};
+use lk_port::{Family, Port, open};
 use std::alloc::Global;
-
-// The paravirtual family.
-const PV: u32 = 3;
 
 // The family of a number.
 fn family_of(family: u32) -> Option<Family>
@@ -24,6 +20,7 @@ fn family_of(family: u32) -> Option<Family>
         0 => Some(Family::Virt),
         1 => Some(Family::Native),
         2 => Some(Family::Cna),
+        3 => Some(Family::Pv),
         _ => None,
     }
 }
@@ -57,7 +54,7 @@ fn are_kinds(kinds: &[u8]) -> bool {
 }
 
 // Whether no handle is in use.
-pub(crate) fn are_empty(cpus: &[Processor]) -> bool
+fn are_empty(cpus: &[Processor]) -> bool
     ensures { result ≡ true → AreEmpty cpus.now }
 {
     for i in 0..cpus.len() {
@@ -69,7 +66,7 @@ pub(crate) fn are_empty(cpus: &[Processor]) -> bool
 }
 
 // Empties the handles again.
-pub(crate) fn empty_all(alloc: Global, cpus: &mut [Processor])
+fn empty_all(alloc: Global, cpus: &mut [Processor])
     ensures { AreEmpty cpus.new }
 {
     for i in 0..cpus.len() {
@@ -90,7 +87,7 @@ fn put_all(alloc: Global, mut ports: Vec<Port>, cpus: &mut [Processor]) -> bool
         let Some(port) = ports.pop() else {
             return false;
         };
-        let Ok(port) = Box::new(alloc, AnyPort::Runs(port)) else {
+        let Ok(port) = Box::new(alloc, port) else {
             return false;
         };
         put(&mut cpus[i], port);
@@ -98,9 +95,8 @@ fn put_all(alloc: Global, mut ports: Vec<Port>, cpus: &mut [Processor]) -> bool
     true
 }
 
-// A new domain of a family whose waiters run, whose processors are put into the handles, all of which are
-// empty.
-fn open_running(
+// A new domain, whose processors are put into the handles, all of which are empty.
+fn open_empty(
     alloc: Global,
     family: Family,
     kinds: &[u8],
@@ -110,7 +106,7 @@ fn open_running(
 ) -> u32
     requires many { length cpus.old ≡ length sockets.now }
     requires empty { AreEmpty cpus.old }
-    ensures opened { result ≡ 0 → AreRunning family kinds.now sockets.now threshold cpus.new }
+    ensures opened { result ≡ 0 → ArePorts family kinds.now sockets.now threshold cpus.new }
     ensures refused { result ≢ 0 → AreEmpty cpus.new }
 {
     let Ok(locks) = kinds_of(alloc, kinds) else {
@@ -143,9 +139,9 @@ pub(crate) fn open_all(
     ensures refused { result ≢ 0 → (cpus.new ≡ cpus.old)
         ⊎ (AreEmpty cpus.old × AreEmpty cpus.new) }
 {
-    if family > PV {
+    let Some(family) = family_of(family) else {
         return RANGE;
-    }
+    };
     if sockets.len() > MOST_CPUS
         || kinds.len() > MOST_LOCKS
         || cpus.len() != sockets.len()
@@ -156,8 +152,5 @@ pub(crate) fn open_all(
     if !are_empty(cpus) {
         return IN_USE;
     }
-    match family_of(family) {
-        Some(family) => open_running(alloc, family, kinds, sockets, threshold, cpus),
-        None => open_halting(alloc, kinds, threshold, cpus),
-    }
+    open_empty(alloc, family, kinds, sockets, threshold, cpus)
 }

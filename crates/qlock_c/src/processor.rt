@@ -4,7 +4,7 @@ ghost use Rattle.qlock_c.specs.Own.{is_full};
 
 use crate::handle::Handle;
 use lk_parcel::Parcel;
-use lk_port::AnyPort;
+use lk_port::Port;
 use std::alloc::Global;
 use std::mem::replace;
 
@@ -18,7 +18,7 @@ pub struct Processor {
 }
 
 // Takes the port out.
-pub(crate) fn take(alloc: Global, cpu: &mut Processor) -> Option<Box<AnyPort, Global>>
+pub(crate) fn take(alloc: Global, cpu: &mut Processor) -> Option<Box<Port, Global>>
     ensures had { IfSome result (λ port. cpu.old.handle.inner ≡ Some port.value) }
     ensures empty { cpu.new.handle.inner ≡ None }
 {
@@ -37,7 +37,7 @@ pub(crate) fn take(alloc: Global, cpu: &mut Processor) -> Option<Box<AnyPort, Gl
 }
 
 // Puts it back.
-pub(crate) fn put(cpu: &mut Processor, port: Box<AnyPort, Global>)
+pub(crate) fn put(cpu: &mut Processor, port: Box<Port, Global>)
     ensures { cpu.new.handle.inner ≡ Some port.value }
 {
     let full = Processor {

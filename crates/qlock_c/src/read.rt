@@ -3,13 +3,13 @@ ghost use Rattle.std.specs.Prelude.{◌≡◌};
 ghost use Rattle.lk_names.specs.declared.holder.Manner.TheVariants.{Reads};
 ghost use Rattle.lk_rows.specs.declared.parts.Pc.TheVariants.{Z1};
 ghost use Rattle.lk_rows.specs.declared.setup.Verb.TheVariants.{Read, TryRead};
-ghost use Rattle.lk_port.specs.AnyPorts.{Enters, EntersAtOnce, Leaves};
+ghost use Rattle.lk_port.specs.Ports.{Enters, EntersAtOnce, Leaves};
 ghost use Rattle.qlock_c.specs.Crossing.{Crosses};
 
 use crate::codes::{CLOSED, code};
 use crate::processor::Processor;
 use lk_domain::LockId;
-use lk_port::AnyPort;
+use lk_port::Port;
 
 /// Enters a reader-writer lock as a reader, if no writer is in it or waits for it.
 #[unsafe(no_mangle)]
@@ -36,7 +36,7 @@ pub extern "C" fn qlock_begin_read(cpu: &mut Processor, lock: u32) -> u32
 
 // What is left of it with the port, which is a parameter here.
 #[inline(never)]
-fn begins_to_read(port: &mut AnyPort, lock: u32) -> u32
+fn begins_to_read(port: &mut Port, lock: u32) -> u32
     ensures { result ≡ 0 → Enters Read Reads lock port.old port.new }
 {
     code(port.begin_read(LockId { index: lock }))

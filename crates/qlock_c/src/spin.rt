@@ -1,12 +1,12 @@
 // The calls on a spinlock, and that which goes on with a call of any kind.
 ghost use Rattle.std.specs.Prelude.{◌≡◌, ◌≢◌};
-ghost use Rattle.lk_port.specs.AnyPorts.{Ends, Frees, Locks, Tries};
+ghost use Rattle.lk_port.specs.Ports.{Ends, Frees, Locks, Tries};
 ghost use Rattle.qlock_c.specs.Crossing.{Crosses};
 
 use crate::codes::{CLOSED, code, freed_code};
 use crate::processor::Processor;
 use lk_domain::LockId;
-use lk_port::AnyPort;
+use lk_port::Port;
 
 /// Takes a spinlock if it is free and nobody waits for it.
 #[unsafe(no_mangle)]
@@ -34,7 +34,7 @@ pub extern "C" fn qlock_begin(cpu: &mut Processor, lock: u32) -> u32
 // What is left of it with the port, which is a parameter here. A call of the family whose waiters halt is
 // made by another function: one that comes back to this one would make every call save registers.
 #[inline(never)]
-fn begins(port: &mut AnyPort, lock: u32) -> u32
+fn begins(port: &mut Port, lock: u32) -> u32
     ensures { result ≡ 0 → Locks lock port.old port.new }
 {
     if port.may_halt() {
@@ -44,7 +44,7 @@ fn begins(port: &mut AnyPort, lock: u32) -> u32
 }
 
 #[inline(never)]
-fn begins_halting(port: &mut AnyPort, lock: u32) -> u32
+fn begins_halting(port: &mut Port, lock: u32) -> u32
     ensures { result ≡ 0 → Locks lock port.old port.new }
 {
     code(port.begin(LockId { index: lock }))
@@ -64,7 +64,7 @@ pub extern "C" fn qlock_unlock(cpu: &mut Processor, lock: u32) -> u32
 // What is left of it with the port. A release that may kick somebody is made by another function, which
 // has the room for whom: it would be cleared at the head of this one.
 #[inline(never)]
-fn frees(port: &mut AnyPort, lock: u32) -> u32
+fn frees(port: &mut Port, lock: u32) -> u32
     ensures { result ≡ 0 → Frees lock port.old port.new }
 {
     if port.may_halt() {
@@ -74,7 +74,7 @@ fn frees(port: &mut AnyPort, lock: u32) -> u32
 }
 
 #[inline(never)]
-fn frees_halting(port: &mut AnyPort, lock: u32) -> u32
+fn frees_halting(port: &mut Port, lock: u32) -> u32
     ensures { result ≡ 0 → Frees lock port.old port.new }
 {
     code(port.unlock(LockId { index: lock }).answer)

@@ -3,13 +3,13 @@ ghost use Rattle.std.specs.Prelude.{◌≡◌};
 ghost use Rattle.lk_names.specs.declared.holder.Manner.TheVariants.{Writes};
 ghost use Rattle.lk_rows.specs.declared.parts.Pc.TheVariants.{Z2};
 ghost use Rattle.lk_rows.specs.declared.setup.Verb.TheVariants.{Write, TryWrite};
-ghost use Rattle.lk_port.specs.AnyPorts.{Enters, EntersAtOnce, Leaves};
+ghost use Rattle.lk_port.specs.Ports.{Enters, EntersAtOnce, Leaves};
 ghost use Rattle.qlock_c.specs.Crossing.{Crosses};
 
 use crate::codes::{CLOSED, code};
 use crate::processor::Processor;
 use lk_domain::LockId;
-use lk_port::AnyPort;
+use lk_port::Port;
 
 /// Enters a reader-writer lock as its writer, if nobody is in it and no writer waits for it.
 #[unsafe(no_mangle)]
@@ -36,7 +36,7 @@ pub extern "C" fn qlock_begin_write(cpu: &mut Processor, lock: u32) -> u32
 
 // What is left of it with the port, which is a parameter here.
 #[inline(never)]
-fn begins_to_write(port: &mut AnyPort, lock: u32) -> u32
+fn begins_to_write(port: &mut Port, lock: u32) -> u32
     ensures { result ≡ 0 → Enters Write Writes lock port.old port.new }
 {
     code(port.begin_write(LockId { index: lock }))

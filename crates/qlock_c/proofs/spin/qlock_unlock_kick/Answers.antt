@@ -1,6 +1,6 @@
 use Rattle.std.proofs.Common.{◌≡◌, Some, refl, sym, ◌∙◌, subst}
-use Rattle.lk_port.specs.AnyPorts.{Frees}
-use Rattle.lk_port.specs.declared.any_port.AnyPort.{AnyPort}
+use Rattle.lk_port.specs.Ports.{Frees}
+use Rattle.lk_port.specs.declared.port.Port.{Port}
 use Rattle.qlock_c.proofs.spin.qlock_unlock_kick.Goals as goal
 
 pub returns-clause-freed : goal.returns-clause-freed
@@ -8,4 +8,4 @@ returns-clause-freed c ok p has =
     let is : Some c.port_mut-port.result.now ≡ Some p = sym c.port_mut-port.ensures.value ∙ has in
     let same : c.port_mut-port.result.now ≡ p = cc is in
     let new = c.unlock-freed.new.self in
-    (new, refl, subst (λ (q : AnyPort). Frees c.args.lock q new) same (c.unlock-freed.ensures.freed (c.freed_code.ensures.done ok)))
+    (new, refl, subst (λ (q : Port). Frees c.args.lock q new) same (c.unlock-freed.ensures.freed (c.freed_code.ensures.done ok)))

@@ -1,7 +1,7 @@
 use Rattle.std.proofs.Common.{◌≡◌, Some, refl, sym, ◌∙◌, subst}
 use Rattle.lk_rows.specs.declared.parts.Pc.TheVariants.{Z2}
-use Rattle.lk_port.specs.AnyPorts.{Leaves}
-use Rattle.lk_port.specs.declared.any_port.AnyPort.{AnyPort}
+use Rattle.lk_port.specs.Ports.{Leaves}
+use Rattle.lk_port.specs.declared.port.Port.{Port}
 use Rattle.qlock_c.proofs.write.qlock_write_unlock.Goals as goal
 
 pub returns : goal.returns
@@ -9,4 +9,4 @@ returns c ok p has =
     let is : Some c.port_mut-port.result.now ≡ Some p = sym c.port_mut-port.ensures.value ∙ has in
     let same : c.port_mut-port.result.now ≡ p = cc is in
     let new = c.write_unlock.new.self in
-    (new, refl, subst (λ (q : AnyPort). Leaves Z2 c.args.lock q new) same (c.write_unlock.ensures.left (c.code.ensures ok)))
+    (new, refl, subst (λ (q : Port). Leaves Z2 c.args.lock q new) same (c.write_unlock.ensures.left (c.code.ensures ok)))

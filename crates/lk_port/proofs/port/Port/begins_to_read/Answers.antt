@@ -1,52 +1,55 @@
 use Rattle.std.proofs.Common.{None, false, set, subst, arith}
-use Rattle.std.specs.Arc.{arc_value}
 use Rattle.lk_names.specs.declared.holder.Manner.TheVariants as manner
 use Rattle.lk_rows.specs.declared.setup.Verb.TheVariants.{Read}
 use Rattle.lk_domain.specs.declared.domain.Domain.{Domain}
 use Rattle.lk_run.specs.Phases.{CameIn, starting}
 use Rattle.lk_run.specs.PolledRead.{Waits}
-use Rattle.lk_run.proofs.Steps.{still_of}
+use Rattle.lk_port.specs.Shares.{domain_of}
 use Rattle.lk_port.proofs.Ports as port
+use Rattle.lk_port.proofs.Shares.{runs_by, runs_rw, still_in}
 use Rattle.lk_port.proofs.port.Port.begins_to_read.Goals as goal
+
+pub runs-requires : goal.runs-requires
+runs-requires c = runs_rw c.args.self.now.share c.args.lock.index c.requires.may.kind
 
 pub invariant_of-self : goal.invariant_of-self
 invariant_of-self c =
     let me = c.args.self.now in
-    let d = arc_value me.domain in
+    let d = domain_of me.share in
     let may = c.requires.may in
     let l = c.args.lock.index in
-    let idle = port.rests d me.writes.items me.pending me.cpu may.free c.stands.ensures in
+    let idle = port.rests d me.notes.items me.pending me.cpu may.free c.runs.ensures.stands in
     let s = starting me.cpu false None in
     let new = c.begin_read.new.cpu in
     let has : CameIn d Read l manner.Reads s new None =
-    subst (λ (e : Domain). CameIn e Read l manner.Reads s new None) c.deref-domain.ensures (c.begin_read.ensures.entered c.in-None.is false) in
+    subst (λ (e : Domain). CameIn e Read l manner.Reads s new None) c.domain.ensures (c.begin_read.ensures.entered c.in-None.is false) in
     record {
-      of = still_of d me.cpu new c.begin_read.ensures.rest me.of;
+      of = still_in me.share me.cpu new c.begin_read.ensures.rest.same me.of;
       lasts = port.other;
-      stands = ∣ port.stands d (set me.writes.items l false) me.pending new may.free
-          (port.came d Read l false s new None me.writes.items idle has may.lock may.kind) ∣₁;
+      stands = ∣ port.stands me.share (set me.notes.items l false) me.pending new c.runs.ensures.runs may.free
+          (port.came d Read l false s new None me.notes.items idle has may.lock may.kind) ∣₁;
     }
 
 pub invariant_of-self-in-Some : goal.invariant_of-self-in-Some
 invariant_of-self-in-Some c =
     let me = c.args.self.now in
-    let d = arc_value me.domain in
+    let d = domain_of me.share in
     let may = c.requires.may in
-    let idle = port.rests d me.writes.items me.pending me.cpu may.free c.stands.ensures in
+    let idle = port.rests d me.notes.items me.pending me.cpu may.free c.runs.ensures.stands in
     let s = starting me.cpu false None in
     let w = c.in-Some.waiter in
     let new = c.begin_read.new.cpu in
     let waits : Waits d w s new =
-    subst (λ (e : Domain). Waits e w s new) c.deref-domain.ensures (c.begin_read.ensures.waits w c.in-Some.is false) in
+    subst (λ (e : Domain). Waits e w s new) c.domain.ensures (c.begin_read.ensures.waits w c.in-Some.is false) in
     record {
-      of = still_of d me.cpu new c.begin_read.ensures.rest me.of;
+      of = still_in me.share me.cpu new c.begin_read.ensures.rest.same me.of;
       lasts = port.other;
-      stands = ∣ (s, idle, port.same_kind d c.args.lock w.lock (c.begin_read.ensures.lock w c.in-Some.is) may.kind, waits) ∣₁;
+      stands = ∣ runs_by _ _ me.share c.runs.ensures.runs (s, idle, port.same_kind d c.args.lock w.lock (c.begin_read.ensures.lock w c.in-Some.is) may.kind, waits) ∣₁;
     }
 
 pub get_mut-requires : goal.get_mut-requires
 get_mut-requires c =
     let me = c.args.self.now in
     let may = c.requires.may in
-    let idle = port.rests (arc_value me.domain) me.writes.items me.pending me.cpu may.free c.stands.ensures in
+    let idle = port.rests (domain_of me.share) me.notes.items me.pending me.cpu may.free c.runs.ensures.stands in
     omega (arith, may.lock, idle.noted.long)

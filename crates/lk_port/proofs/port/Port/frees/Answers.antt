@@ -1,28 +1,28 @@
-use Rattle.std.specs.Arc.{arc_value}
 use Rattle.lk_domain.specs.Seats.{calls_of}
-use Rattle.lk_run.proofs.Steps.{still_of}
+use Rattle.lk_port.specs.Shares.{domain_of}
 use Rattle.lk_port.proofs.Ports as port
+use Rattle.lk_port.proofs.Shares.{still_in}
 use Rattle.lk_port.proofs.port.Port.frees.Goals as goal
 
 pub unlock-requires-clause-value : goal.unlock-requires-clause-value
 unlock-requires-clause-value c =
     let me = c.args.self.now in
-    let d = arc_value me.domain in
+    let d = domain_of me.share in
     let may = c.requires.may in
     let l = c.args.lock.index in
-    let idle = port.rests d me.writes.items me.pending me.cpu may.free c.stands.ensures in
+    let idle = port.rests d me.notes.items me.pending me.cpu may.free c.runs.ensures.stands in
     port.none_out (calls_of me.cpu).holds l idle.home
 
 pub invariant_of-self : goal.invariant_of-self
 invariant_of-self c =
     let me = c.args.self.now in
-    let d = arc_value me.domain in
+    let d = domain_of me.share in
     let may = c.requires.may in
     let l = c.args.lock.index in
-    let idle = port.rests d me.writes.items me.pending me.cpu may.free c.stands.ensures in
+    let idle = port.rests d me.notes.items me.pending me.cpu may.free c.runs.ensures.stands in
     let new = c.unlock.new.cpu in
     record {
-      of = still_of d me.cpu new c.unlock.ensures.rest me.of;
-      lasts = port.has_freed d me.pending me.cpu new c.args.lock may c.unlock.ensures.freed;
-      stands = ∣ port.stands d me.writes.items me.pending new may.free (port.dropped d l me.cpu new me.writes.items idle c.unlock.ensures.freed) ∣₁;
+      of = still_in me.share me.cpu new c.unlock.ensures.rest.same me.of;
+      lasts = port.has_freed d me.cpu new c.args.lock may c.unlock.ensures.freed.freed.none;
+      stands = ∣ port.stands me.share me.notes.items me.pending new c.runs.ensures.runs may.free (port.dropped d l me.cpu new me.notes.items idle c.unlock.ensures.freed) ∣₁;
     }

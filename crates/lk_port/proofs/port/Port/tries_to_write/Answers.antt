@@ -1,35 +1,38 @@
 use Rattle.std.proofs.Common.{set, true, subst, arith}
-use Rattle.std.specs.Arc.{arc_value}
 use Rattle.lk_names.specs.declared.holder.Manner.TheVariants as manner
 use Rattle.lk_rows.specs.declared.setup.Verb.TheVariants.{TryWrite}
 use Rattle.lk_domain.specs.Seats.{calls_of}
 use Rattle.lk_domain.specs.Waits.{Gains}
 use Rattle.lk_domain.specs.declared.domain.Domain.{Domain}
-use Rattle.lk_run.proofs.Steps.{still_of}
+use Rattle.lk_port.specs.Shares.{domain_of}
 use Rattle.lk_port.proofs.Ports as port
+use Rattle.lk_port.proofs.Shares.{runs_rw, still_in}
 use Rattle.lk_port.proofs.port.Port.tries_to_write.Goals as goal
+
+pub runs-requires : goal.runs-requires
+runs-requires c = runs_rw c.args.self.now.share c.args.lock.index c.requires.may.kind
 
 pub invariant_of-self : goal.invariant_of-self
 invariant_of-self c =
     let me = c.args.self.now in
-    let d = arc_value me.domain in
+    let d = domain_of me.share in
     let may = c.requires.may in
     let l = c.args.lock.index in
-    let idle = port.rests d me.writes.items me.pending me.cpu may.free c.stands.ensures in
+    let idle = port.rests d me.notes.items me.pending me.cpu may.free c.runs.ensures.stands in
     let new = c.try_write-has.new.cpu in
     let gains : Gains d TryWrite l manner.Writes (calls_of me.cpu) me.cpu new =
-    subst (λ (e : Domain). Gains e TryWrite l manner.Writes (calls_of me.cpu) me.cpu new) c.deref-domain.ensures (c.try_write-has.ensures.taken c.if-has.true) in
+    subst (λ (e : Domain). Gains e TryWrite l manner.Writes (calls_of me.cpu) me.cpu new) c.domain.ensures (c.try_write-has.ensures.taken c.if-has.true) in
     record {
-      of = still_of d me.cpu new c.try_write-has.ensures.rest me.of;
+      of = still_in me.share me.cpu new c.try_write-has.ensures.rest.same me.of;
       lasts = port.other;
-      stands = ∣ port.stands d (set me.writes.items l true) me.pending new may.free
-          (port.gained d l me.cpu new TryWrite manner.Writes me.writes.items (set me.writes.items l true) idle gains
-          (port.notes_rw d.plan l true me.writes.items idle.noted.long may.lock may.kind)) ∣₁;
+      stands = ∣ port.stands me.share (set me.notes.items l true) me.pending new c.runs.ensures.runs may.free
+          (port.gained d l me.cpu new TryWrite manner.Writes me.notes.items (set me.notes.items l true) idle gains
+          (port.notes_rw d.plan l true me.notes.items idle.noted.long may.lock may.kind)) ∣₁;
     }
 
 pub get_mut-requires : goal.get_mut-requires
 get_mut-requires c =
     let me = c.args.self.now in
     let may = c.requires.may in
-    let idle = port.rests (arc_value me.domain) me.writes.items me.pending me.cpu may.free c.stands.ensures in
+    let idle = port.rests (domain_of me.share) me.notes.items me.pending me.cpu may.free c.runs.ensures.stands in
     omega (arith, may.lock, idle.noted.long)

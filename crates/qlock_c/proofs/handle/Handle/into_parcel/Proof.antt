@@ -25,7 +25,7 @@ use denote.Triple.Table.{entered}
 use denote.Triple.Walked.{says, Stays, stay_dropped, walk_of, ends_at, Goes-dropped, walk_Meets}
 use Rattle.std.proofs.BoxSteps.Form.{D, word, box_typed}
 use Rattle.std.proofs.BoxSteps.Steps.{box_out, box_in}
-use Rattle.lk_port.specs.declared.any_port.AnyPort.{AnyPort}
+use Rattle.lk_port.specs.declared.port.Port.{Port}
 use Rattle.qlock_c.specs.contracts.handle.Handle as Handle
 use Rattle.qlock_c.proofs.AsBox.{E, FromHandle as From}
 use Rattle.qlock_c.specs.contracts.handle.Handle.into_parcel as F
@@ -44,12 +44,12 @@ module _ {M : Type 1} {𝓤 : Ura M} (𝓛 : Logic 𝓤) (at_mem : Memory → SP
   walk z =
       let Post = (walk_of 𝓛 F.ended stayed (F.clauses 𝓛 at_mem run)).post z in
       let s = z.0.3.0 in
-      qed 𝓛 ((‵ ftrue ⊛ ‵ (fsep (Handle.the_row.own_val s z.0.4.0) ftrue)) ∷ raw (fact 𝓤 ((x : AnyPort) × (s.inner ≡ Some x))) ∷ []) ∵ move ! (1 ∷ []) $ heard ! ((x : AnyPort) × (s.inner ≡ Some x)) (λ has.
+      qed 𝓛 ((‵ ftrue ⊛ ‵ (fsep (Handle.the_row.own_val s z.0.4.0) ftrue)) ∷ raw (fact 𝓤 ((x : Port) × (s.inner ≡ Some x))) ∷ []) ∵ move ! (1 ∷ []) $ heard ! ((x : Port) × (s.inner ≡ Some x)) (λ has.
       let v : D E = record { ptr = s.at; alloc = s.alloc; value = has.0 } in
       let To = type_at (F.signature).result tt in
       let made : To.Denot = record { at = v.ptr; alloc = v.alloc; value = v.value } in
       split ! $ drop ! $ fsplit ! $
-      rewrite ! 0 (λ (o : Option AnyPort). ‵ (Handle.the_row.own_val (record { at = s.at; alloc = s.alloc; inner = o }) z.0.4.0)) has.1 refl $
+      rewrite ! 0 (λ (o : Option Port). ‵ (Handle.the_row.own_val (record { at = s.at; alloc = s.alloc; inner = o }) z.0.4.0)) has.1 refl $
       box_out E ! v z.0.4.0 (λ b o hv e ws fa. box_in E ! v b o v.value e refl $ use1 𝓛 (‵ (To.own_val made (word E hv b o ∷ []))) (id⊢ 𝓤 _) $ move ! (1 ∷ []) $ drop ! $
       let w = word E hv b o in
       let Γ : List (Item 𝓤) = ‵ (To.own_val made (w ∷ [])) ∷ [] in

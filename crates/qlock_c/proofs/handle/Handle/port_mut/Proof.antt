@@ -30,8 +30,8 @@ use Rattle.std.proofs.alloc.Calls.{token}
 use Rattle.std.proofs.raw_atomic.Walks.{proved}
 use Rattle.std.proofs.BoxSteps.Form.{D, R, τ, word, handle}
 use Rattle.std.proofs.BoxSteps.Steps.{box_out, box_in}
-use Rattle.lk_port.specs.declared.any_port.AnyPort.{AnyPort}
-use Rattle.lk_port.specs.contracts.any_port.AnyPort as port
+use Rattle.lk_port.specs.declared.port.Port.{Port}
+use Rattle.lk_port.specs.contracts.port.Port as port
 use Rattle.qlock_c.specs.Lending.{with_port}
 use Rattle.qlock_c.specs.Own.{is_full}
 use Rattle.qlock_c.specs.declared.handle.Handle as of
@@ -51,7 +51,7 @@ module _ {M : Type 1} {𝓤 : Ura M} (𝓛 : Logic 𝓤) (rb ro : ℕ) (h : of.H
   abbrev Rest : Fml
   Rest = fsep (fsep (token E.al h.alloc (bare (τ E)) (block_ptr b o)) (handle E h.alloc hv)) (cell_at full_share Handle.the_row.mir (word E hv b o ∷ []) rb ro)
 
-  back : h.at ≡ block_ptr b o → (w : AnyPort) → ent 𝓤 (sep 𝓤 (sem 𝓛 ((mem port.the_row).own_at w b o)) (sem 𝓛 Rest)) (sem 𝓛 ((mem Handle.the_row).own_at (with_port h w) rb ro))
+  back : h.at ≡ block_ptr b o → (w : Port) → ent 𝓤 (sep 𝓤 (sem 𝓛 ((mem port.the_row).own_at w b o)) (sem 𝓛 Rest)) (sem 𝓛 ((mem Handle.the_row).own_at (with_port h w) rb ro))
   unfolding part_of
   back at_b w =
       let d : D E = record { ptr = h.at; alloc = h.alloc; value = w } in
@@ -74,7 +74,7 @@ port_mut_spec 𝓤 𝓛 𝓜 𝓡 wired =
     enter ! _ _ _ _ _ $ alloc_all ! (λ l. pass_all ! refl ((tt, tt), tt) $
     move ! (1 ∷ []) $ fsplit ! $ fsplit3 ! $ drop ! $ move ! (3 ∷ []) $ split ! $ move ! (2 ∷ 3 ∷ 0 ∷ []) $
     opens ! tt Handle.the_row {h = h} rb ro (λ vs. move ! (1 ∷ []) $
-    rewrite ! 0 (λ (inner : Option AnyPort). ‵ (Handle.the_row.own_val (record { at = h.at; alloc = h.alloc; inner = inner }) vs)) has.1 refl $
+    rewrite ! 0 (λ (inner : Option Port). ‵ (Handle.the_row.own_val (record { at = h.at; alloc = h.alloc; inner = inner }) vs)) has.1 refl $
     box_out E ! v vs (λ b o hv at_b ws fa. move ! (1 ∷ 2 ∷ []) $ fjoin ! $ move ! (1 ∷ []) $
     rewrite ! 2 (λ (us : List Val). ‵ (cell_at full_share Handle.the_row.mir us rb ro)) ws refl $
     -- [the port; the rest of the handle; its words; the open borrow; what it had; the same]
