@@ -8,3 +8,5 @@ pub mod Lands
 pub mod Fresh
 pub mod Users
 pub mod Halts
+pub mod Changes
+pub mod Writes

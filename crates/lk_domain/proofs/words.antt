@@ -1,5 +1,6 @@
 pub mod Locks
 pub mod NodeWords
+pub mod Written
 pub mod OnWords
 pub mod Numbers
 pub mod LockPlays

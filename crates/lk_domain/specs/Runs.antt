@@ -6,12 +6,9 @@ use mathlib.Core.Option.{some}
 use lib.ListN.{get_elem?}
 use Rattle.atomic_table.specs.Table.{State}
 use Rattle.lk_names.specs.History.{LockHistory}
-use Rattle.lk_names.specs.declared.names.Kind.TheVariants.{Rw}
 use Rattle.lk_names.specs.declared.names.LockName.{LockName}
 use Rattle.lk_names.specs.declared.names.Waiter.{Waiter}
 use Rattle.lk_word.specs.declared.spin_word.NodeName.{NodeName}
-use Rattle.lk_word.specs.RwWord.{packed_rw}
-use Rattle.lk_word.specs.SpinWord.{packed}
 use Rattle.lk_rows.specs.declared.parts.Frame.{Frame}
 use Rattle.lk_rows.specs.declared.parts.Node.{Node}
 use Rattle.lk_rows.specs.declared.parts.Pc.{Pc}
@@ -21,15 +18,15 @@ use Rattle.lk_law.specs.Agree.{halts}
 use Rattle.lk_law.specs.Families.{chooses}
 use Rattle.lk_law.specs.Nodes.{will_link}
 use Rattle.lk_law.specs.Premises.{Uses}
-use Rattle.lk_law.specs.SoundWorld.{IsSoundWorld, is_rw_name}
+use Rattle.lk_law.specs.SoundWorld.{IsSoundWorld}
 use Rattle.lk_law.specs.World.{World}
 use Rattle.lk_waits.specs.Attended.{IsAttended}
 use Rattle.lk_domain.specs.Calls.{Calls, no_calls, frame_in, held_in, Stacked, ArePlaced, Rests, AreHeld}
 use Rattle.lk_domain.specs.Calls.{AreFresh, Running, told_in, is_inner, lock_name}
-use Rattle.lk_domain.specs.Plans.{cpus_of, locks_of, kind_at, layout_in, IsRunningPlan, turns_of}
+use Rattle.lk_domain.specs.Plans.{cpus_of, locks_of, kind_at, IsRunningPlan, turns_of}
 use Rattle.lk_domain.specs.Views.{total, times, numbers, once_below}
-use Rattle.lk_domain.specs.Words.{lock_at, word_at, node_at, words_of, part_index, has_part}
-use Rattle.lk_domain.specs.Words.{node_number, stored_number, state_at, hash_at, kick_at, places_of, IsNode, state_number, pair_number, mark_number}
+use Rattle.lk_domain.specs.Words.{Place, place_at, IsPlace, is_read, number_of, with_mark, words_of}
+use Rattle.lk_domain.specs.Words.{part_index, node_number, places_of, IsNode, pair_number}
 use Rattle.lk_domain.specs.declared.part.Part.{Part}
 use Rattle.lk_domain.specs.declared.plan.Plan.{Plan}
 use Rattle.lk_domain.specs.declared.view.View.{View}
@@ -109,40 +106,26 @@ pub record SeatFits (m : World) (p : ℕ) (c : Calls) : Type 0 where
   pub single : halts m.mode ≡ true → length c.frames ≤ 1
   pub halted : m.halted p ≡ c.halted
 
--- the word of each spinlock, wait lock and reader-writer lock is packed
-pub record AreLocks (k : Plan) (m : World) (ws : List ℕ) : Type 0 where
-  pub plain : (n : LockName)
-      → n.index < locks_of k
-      → is_rw_name m.kind n ≡ false
-      → slice_index ws (word_at n) ≡ packed (layout_in k) (m.word n)
-  pub shared : (l : ℕ)
-      → l < locks_of k
-      → m.kind l ≡ Rw
-      → slice_index ws (lock_at l) ≡ packed_rw (m.rw l)
-
--- the words are those of the locks, and each word that a node has is its number, that of a link
--- with the mark
-pub record IsStored (k : Plan) (m : World) (marks : NodeName → Bool) (ws : List ℕ) : Type 0 where
+-- each word that somebody reads has the number of what it stands for
+pub record IsStored (k : Plan) (m : World) (marks : NodeName → Bool) (pairs : ℕ → ℕ) (ws : List ℕ) : Type 0 where
   pub long : length ws ≡ words_of k
-  pub locks : AreLocks k m ws
-  pub nodes : (n : NodeName) (q : Part)
-      → n.cpu < cpus_of k
-      → n.index < 4
-      → has_part k.mode q ≡ true
-      → slice_index ws (node_at k n q) ≡ stored_number (marks n) q (node_number q (m.node n))
+  pub words : (x : Place)
+      → IsPlace k x
+      → is_read k.mode x ≡ true
+      → slice_index ws (place_at k x) ≡ with_mark marks x (number_of k m pairs x)
 
--- The hash is the map of the pairs in its places: each entry stands at one place, and each place that
--- is not empty has an entry.
-pub record IsHashed (k : Plan) (m : World) (ws : List ℕ) : Type 0 where
+-- With these numbers in its places the hash is the map of the entries: each entry stands at one place, and
+-- each place that is not empty has an entry.
+pub record IsHashed (k : Plan) (entry : LockName → Option NodeName) (pairs : ℕ → ℕ) : Type 0 where
   pub entered : (l : LockName) (n : NodeName)
-      → m.entry l ≡ Some n
+      → entry l ≡ Some n
       → (l.wait ≡ false) × (l.index < locks_of k) × ((i : ℕ) × (i < places_of k)
-      × (slice_index ws (hash_at k i) ≡ pair_number l.index n))
+      × (pairs i ≡ pair_number l.index n))
   pub placed : (i : ℕ)
       → i < places_of k
-      → (slice_index ws (hash_at k i) ≡ 0)
-      ⊎ ((l : ℕ) × (n : NodeName) × IsNode k n × (l < locks_of k) × (m.entry (lock_name l) ≡ Some n)
-      × (slice_index ws (hash_at k i) ≡ pair_number l n))
+      → (pairs i ≡ 0)
+      ⊎ ((l : ℕ) × (n : NodeName) × IsNode k n × (l < locks_of k) × (entry (lock_name l) ≡ Some n)
+      × (pairs i ≡ pair_number l n))
   -- no lock stands in two places
   pub once : (i j l : ℕ) (a b : NodeName)
       → i < places_of k
@@ -150,18 +133,9 @@ pub record IsHashed (k : Plan) (m : World) (ws : List ℕ) : Type 0 where
       → IsNode k a
       → IsNode k b
       → l < locks_of k
-      → slice_index ws (hash_at k i) ≡ pair_number l a
-      → slice_index ws (hash_at k j) ≡ pair_number l b
+      → pairs i ≡ pair_number l a
+      → pairs j ≡ pair_number l b
       → i ≡ j
-
--- where processors halt, their words: the states of the nodes, the kicks, and the hash
-pub record IsHalting (k : Plan) (m : World) (ws : List ℕ) : Type 0 where
-  pub states : (n : NodeName)
-      → n.cpu < cpus_of k
-      → n.index < 4
-      → slice_index ws (state_at k n) ≡ state_number (m.node n).state
-  pub kicks : (p : ℕ) → p < cpus_of k → slice_index ws (kick_at k p) ≡ mark_number (m.kicked p)
-  pub hash : IsHashed k m ws
 
 -- the newest call seeks the entry of its lock: a release that finds whom to kick, or a head that took
 -- the lock while it entered itself
@@ -172,19 +146,19 @@ seeks_entry _ = false
 
 -- It has looked at so many places, and none has an entry of the lock; and where it has found one, that
 -- stands at the next.
-pub record Sought (k : Plan) (ws : List ℕ) (l n : ℕ) (spot : Option NodeName) : Type 0 where
+pub record Sought (k : Plan) (pairs : ℕ → ℕ) (l n : ℕ) (spot : Option NodeName) : Type 0 where
   pub passed : (i : ℕ) (a : NodeName)
       → i < n
       → IsNode k a
-      → slice_index ws (hash_at k i) ≢ pair_number l a
+      → pairs i ≢ pair_number l a
   pub inside : n ≤ places_of k
   pub found : (a : NodeName)
       → spot ≡ Some a
-      → (n < places_of k) × (slice_index ws (hash_at k n) ≡ pair_number l a)
+      → (n < places_of k) × (pairs n ≡ pair_number l a)
 
-abbrev pub Seeks : Plan → List ℕ → Calls → Type 0
-Seeks k ws c = (x : Running) (rs : List Running) → c.frames ≡ x ∷ rs
-    → seeks_entry x.frame.place ≡ true → Sought k ws x.frame.lock.index c.looked c.spot
+abbrev pub Seeks : Plan → (ℕ → ℕ) → Calls → Type 0
+Seeks k pairs c = (x : Running) (rs : List Running) → c.frames ≡ x ∷ rs
+    → seeks_entry x.frame.place ≡ true → Sought k pairs x.frame.lock.index c.looked c.spot
 
 -- the first seat alone deals the numbers, and as many were dealt as the roll word says
 pub record Deals (k : Plan) (roll id n : ℕ) (plan : Plan) : Type 0 where
@@ -210,12 +184,13 @@ pub record Runs (k : Plan) {S : Type 0} (s : State S View) : Type 0 where
   -- who waits for a successor or a kick waits for somebody
   pub attended : IsAttended world
   pub of_plan : IsOfPlan k world
-  -- the marks of the links
+  -- the marks of the links, and the numbers in the places of the hash
   pub marks : NodeName → Bool
-  pub stored : IsStored k world marks s.words
+  pub pairs : ℕ → ℕ
+  pub stored : IsStored k world marks pairs s.words
   pub marked : AreMarked world marks
-  pub halting : halts k.mode ≡ true → IsHalting k world s.words
-  pub seeks : (id : ℕ) (v : View) → get_elem? s.views id ≡ some v → Seeks k s.words v.calls
+  pub hashed : halts k.mode ≡ true → IsHashed k world.entry pairs
+  pub seeks : (id : ℕ) (v : View) → get_elem? s.views id ≡ some v → Seeks k pairs v.calls
   pub seats : (id : ℕ) (v : View) (p : ℕ)
       → get_elem? s.views id ≡ some v
       → v.who.number ≡ Some p

@@ -32,6 +32,7 @@ pub use ledger::{Journal, journal_home, journal_out, load, steps as ledger_steps
 pub use locks::{moves, node_moves, steps};
 pub use making::{opening_slots, opening_words};
 pub use part::{Link, Part};
+pub use place::{KICK_WORDS, NODES};
 pub use plan::{MOST_CPUS, MOST_LOCKS, Plan};
 pub use rule::{Deal, Draw, Order, WordSteps};
 pub use slot::{Slot, Stowed};

@@ -2,8 +2,8 @@
 ghost use Rattle.std.specs.Prelude.{◌≡◌, ◌+◌, ◌*◌, ◌<◌, Some};
 ghost use Rattle.lk_domain.specs.NodePlays.{IsFlagNode};
 ghost use Rattle.lk_domain.specs.Plans.{IsRunningPlan, layout_in, locks_of};
-ghost use Rattle.lk_domain.specs.Words.{IsNode, balance_at, far_of, flag_number, lock_at, marked};
-ghost use Rattle.lk_domain.specs.Words.{name_number, node_at, word_at};
+ghost use Rattle.lk_domain.specs.Words.{IsNode, balance_at, far_of, first_node, flag_number};
+ghost use Rattle.lk_domain.specs.Words.{lock_at, marked, name_number, node_at, word_at};
 ghost use Rattle.lk_word.specs.SpinWord.{index_unit, tail_number};
 
 use crate::part::{Link, Part};
@@ -24,6 +24,10 @@ pub const CPU_WORDS: usize = 16;
 pub const NODE_WORDS: usize = 4;
 // The words of a processor that only the family has whose processors halt.
 pub const HALTING_WORDS: usize = 16;
+/// The nodes of a processor. Each has a word for its state there, and there are as many places in the hash.
+pub const NODES: usize = 4;
+/// From one kick word to the next: a line of the cache.
+pub const KICK_WORDS: usize = 8;
 
 impl Plan {
     /// How the words of its locks are laid out.
@@ -74,7 +78,7 @@ impl Plan {
     #[inline]
     pub fn first_node(&self) -> usize
         requires { IsRunningPlan self.now }
-        ensures { result ≡ 72 + 8 * locks_of self.now }
+        ensures { result ≡ first_node self.now }
     {
         prove!(self.locks.len() <= MOST_LOCKS);
         self.first_balance() + BALANCES
@@ -101,7 +105,7 @@ impl Plan {
         prove!(self.locks.len() <= MOST_LOCKS);
         prove!(self.topology.sockets.len() <= MOST_CPUS);
         let place = part.index();
-        prove!(place < 4);
+        prove!(place < NODE_WORDS);
         self.first_node()
             + place
             + (CPU_WORDS * node.cpu as usize + NODE_WORDS * node.index as usize)

@@ -19,7 +19,7 @@ use Rattle.lk_law.proofs.pv.HaltsShown.{sleeping_front_is_kicked}
 use Rattle.lk_domain.specs.Calls.{Running, frame_in}
 use Rattle.lk_domain.specs.Keeps.{Slot}
 use Rattle.lk_domain.specs.Runs.{Runs, waiter, seeks_entry}
-use Rattle.lk_domain.specs.Words.{mark_number, IsNode}
+use Rattle.lk_domain.specs.Words.{OfKick, mark_number, IsNode}
 use Rattle.lk_domain.specs.declared.plan.Plan.{Plan}
 use Rattle.lk_domain.specs.declared.view.View.{View}
 use Rattle.lk_domain.proofs.queue.OnNodes.{top_live}
@@ -72,7 +72,7 @@ front_is_kicked k s both l w f on plain free front live asleep =
     ap (λ b. slice_get (if b then no_history else st.histories l).main 0) plain ∙ front in
     elim (sleeping_front_is_kicked m (spin_part m.kind st.histories) l w f (ap halts st.of_plan.mode ∙ on) st.sound.spins free
     front' live asleep) [
-      | inl h ↦ inl ((st.halting on).kicks w.cpu (omega (arith, drew, few)) ∙ ap mark_number h)
+      | inl h ↦ inl (st.stored.words (OfKick w.cpu) (on, omega (arith, drew, few)) refl ∙ ap mark_number h)
       | inr h ↦ inr (kicker k s st w.cpu h.0 (ap halts st.of_plan.mode ∙ on) h.1)
     ]
 
@@ -94,4 +94,4 @@ entry_is_found k s both id p v x rs on me is frames place =
     let low = seated k s st id v me p is m (λ u ne. (refl, λ l. refl)) used.0 used.1.0 used.1.1 in
     let near : IsNode k a = record { cpu = let c = used.2.cpu in omega (arith, c, low); index = used.2.index } in
     let sought = st.seeks id v me x rs frames (ap seeks_entry place) in
-    sought_is_there k m s.words x.frame.lock a v.calls.looked (st.halting on).hash some.1 near sought.passed
+    sought_is_there k m.entry st.pairs x.frame.lock a v.calls.looked (st.hashed on) some.1 near sought.passed

@@ -1,7 +1,6 @@
 -- The steps that put a lock into the hash.
-use Rattle.std.proofs.Common.{◌≡◌, ◌≢◌, inl, inr, ℕ, ◌<◌, ◌≤◌, List, set, get_or, length-set}
+use Rattle.std.proofs.Common.{◌≡◌, ◌≢◌, inl, inr, ℕ, ◌<◌, List, set, get_or}
 use Rattle.std.proofs.Common.{Option, Some, None, Bool, true, false, eqb, eq-eqb, ne_eqb, refl, sym, ap, ◌∙◌, subst, arith}
-use Rattle.std.proofs.Common.{get_or-set_other, get_or-set_same}
 use Rattle.std.proofs.lemmas.Bool.{cases_eq}
 use Rattle.std.specs.Prelude.{if◌then◌else◌, is_some}
 use prog.Atomic.{either}
@@ -31,32 +30,28 @@ use Rattle.lk_law.proofs.common.Knows.{row_knows}
 use Rattle.lk_law.proofs.running.Calm.{node_comes_at_entry}
 use Rattle.lk_domain.specs.Calls.{terms_of, Calls, StandsOn, row_of, acting, Begins, lock_name}
 use Rattle.lk_domain.specs.Keeps.{Slot}
-use Rattle.lk_domain.specs.Plans.{accounts_of, cpus_of, locks_of}
+use Rattle.lk_domain.specs.Plans.{locks_of}
 use Rattle.lk_domain.specs.Plays.{went}
 use Rattle.lk_domain.specs.Runs.{waiter, node_name, Runs, Seeks, seeks_entry}
 use Rattle.lk_domain.specs.Stand.{Stand}
 use Rattle.lk_domain.specs.Views.{IsNumbered}
-use Rattle.lk_domain.specs.Words.{places_of, node_at, node_number, state_at, kick_at, hash_at, stored_number}
-use Rattle.lk_domain.specs.Words.{state_number, mark_number, pair_number, IsNode}
-use Rattle.lk_domain.specs.declared.part.Part.{Part}
-use Rattle.lk_domain.specs.declared.part.Part.TheVariants as part
+use Rattle.lk_domain.specs.Words.{OfHash, places_of, node_number, hash_at, pair_number, IsNode}
 use Rattle.lk_domain.specs.declared.plan.Plan.{Plan}
 use Rattle.lk_domain.specs.declared.plan.TheConstants.{MOST_LOCKS}
 use Rattle.lk_domain.specs.declared.view.View.{View}
 use Rattle.lk_domain.proofs.queue.LockSwaps.{stands}
 use Rattle.lk_domain.proofs.queue.NodePlays.{acts', asks, calls_are, kept}
-use Rattle.lk_domain.proofs.queue.Relinks.{IsBare}
 use Rattle.lk_domain.proofs.queue.OnNodes.{top_live}
 use Rattle.lk_domain.proofs.rows.Grips.{IsOwn, own_row}
 use Rattle.lk_domain.proofs.rows.Lands as lands
 use Rattle.lk_domain.proofs.rows.Kept.{counted_after}
 use Rattle.lk_domain.proofs.rows.Poised.{Poised}
 use Rattle.lk_domain.proofs.rows.Sights.{IsSeen}
-use Rattle.lk_domain.proofs.words.Locks.{SameLocks, locks_else, locks_trans, acted_locks}
+use Rattle.lk_domain.proofs.words.Written.{bare, roll_stays}
 use Rattle.lk_domain.proofs.words.LockPlays.{MayFree}
 use Rattle.lk_pvdomain.specs.PvPlays.{AtFill, Fills}
 use Rattle.lk_pvdomain.specs.PvRows.{fills, filled_with}
-use Rattle.lk_pvdomain.proofs.HashMaps.{filled, pair_is, plain_is, place_is, far_words}
+use Rattle.lk_pvdomain.proofs.HashMaps.{filled, pair_is, plain_is, put_pair, pair_here, pair_else, hash_written}
 use Rattle.lk_domain.proofs.rows.Users.{bare_me}
 use Rattle.lk_pvdomain.proofs.Unmarked.{unseen_links, marks_stay, fill_off}
 
@@ -111,17 +106,6 @@ sought_entry m hs u f ok on live h = by f.place refl h
     by (Some E9) e q = (node_of f.me, ((row_knows E9 m hs u f ok live e).2 on).1)
     by _ e q = cc q
 
-pub node_hash : (k : Plan) (i : ℕ) (b : NodeName) (q : Part) → b.cpu < cpus_of k
-    → b.index < 4 → node_at k b q ≡ hash_at k i → ⊥
-node_hash k i b part.Flag lt h e = omega (arith, lt, h, e)
-node_hash k i b part.Next lt h e = omega (arith, lt, h, e)
-node_hash k i b part.SecondTail lt h e = omega (arith, lt, h, e)
-node_hash k i b part.Runs lt h e = omega (arith, lt, h, e)
-
-pub hash_bare : (k : Plan) (i : ℕ) → accounts_of k ≤ 64 → IsBare k (hash_at k i)
-hash_bare k i few =
-    record { roll = λ e. omega (arith, e); version = λ e. omega (arith, e); balances = λ b lt e. omega (arith, e, lt, few) }
-
 pub none_some : {b : NodeName} → None ≡ Some b → ⊥
 none_some e = cc e
 
@@ -175,16 +159,6 @@ module _ (k : Plan) {S : Type 0} (s : Table S View) (st : Runs k s) (id : ℕ) (
       (lands.row_done k s st id v me p is verb l pc begins acts unseen).node row_bare
       ∙ (ap (λ (z : World). z.node) is_stored ∙ at.acted.same.node)
 
-  row_locks : SameLocks st.world n
-  row_locks =
-      let d = lands.row_done k s st id v me p is verb l pc begins acts unseen in
-      locks_trans (acted_locks at.acted.same)
-      (record {
-        word = d.word ∙ ap (λ (x : World). x.word) is_stored;
-        rw = d.rw ∙ ap (λ (x : World). x.rw) is_stored;
-        kind = d.kind;
-      })
-
   -- the entry of the lock alone has come
   now : (a : NodeName) → filled_with pc f ≡ Some a
       → (j : LockName) → n.entry j ≡ (if same_lock j l then Some a else st.world.entry j)
@@ -193,18 +167,18 @@ module _ (k : Plan) {S : Type 0} (s : Table S View) (st : Runs k s) (id : ℕ) (
       ap (λ (g : LockName → Option NodeName). g j) (d.entry ∙ ap (λ (x : World). x.entry) is_stored)
       ∙ (λ i. if same_lock j (acts.lock i) then with_it i else (at.acted.same.entry i) j)
 
-  module _ (i : ℕ) (low : i < places_of k) (empty : get_or s.words (hash_at k i) 0 ≡ 0) (a : NodeName) (node : IsNode k a) where
-    abbrev ws : List ℕ
-    ws = set s.words (hash_at k i) (pair_number lock a)
+  module _ (i : ℕ) (low : i < places_of k) (empty : st.pairs i ≡ 0) (a : NodeName) (node : IsNode k a) where
+    abbrev qs : ℕ → ℕ
+    qs = put_pair st.pairs i (pair_number lock a)
 
-    other : (j : ℕ) → j ≢ hash_at k i → get_or ws j 0 ≡ get_or s.words j 0
-    other j ne = get_or-set_other s.words (hash_at k i) j (pair_number lock a) 0 ne
+    other : (j : ℕ) → j ≢ i → qs j ≡ st.pairs j
+    other j ne = pair_else st.pairs i (pair_number lock a) j ne
 
     -- who seeks an entry seeks that of another lock
-    seeking : (q : ℕ) (y : View) → get_elem? s.views q ≡ some y → Seeks k s.words y.calls → (r : ℕ) → y.who.number ≡ Some r → Seeks k ws y.calls
+    seeking : (q : ℕ) (y : View) → get_elem? s.views q ≡ some y → Seeks k st.pairs y.calls → (r : ℕ) → y.who.number ≡ Some r → Seeks k qs y.calls
     seeking q y there seeks r numbered x rs frames h =
         let o = seeks x rs frames h in
-        let hash = (st.halting halting).hash in
+        let hash = st.hashed halting in
         let live = top_live k s st q y there r numbered (st.seats q y r there numbered) x rs frames in
         let some = sought_entry st.world _ (waiter r x.frame.ctx) x.frame st.sound.spins (ap halts st.of_plan.mode ∙ halting) live h in
         let e = hash.entered x.frame.lock some.0 some.1 in
@@ -215,58 +189,45 @@ module _ (k : Plan) {S : Type 0} (s : Table S View) (st : Runs k s) (id : ℕ) (
         record {
           passed = λ j b lt fit is_pair. elim (cases_eq j i) [
             | inl same ↦ apart (pair_is lock x.frame.lock.index a b (omega (arith, near, few)) high node.index fit.index
-                (sym (get_or-set_same s.words (hash_at k i) (pair_number lock a) 0
-                (let long = st.stored.long ∙ far_words k halting in omega (arith, low, long)))
-                ∙ (ap (λ (z : ℕ). get_or ws (hash_at k z) 0) (sym same) ∙ is_pair))).0
-            | inr ne ↦ o.passed j b lt fit (sym (other (hash_at k j) (λ q. ne (place_is k j i q))) ∙ is_pair)
+                (sym (pair_here st.pairs i (pair_number lock a)) ∙ (ap qs (sym same) ∙ is_pair))).0
+            | inr ne ↦ o.passed j b lt fit (sym (other j ne) ∙ is_pair)
           ];
           inside = o.inside;
           found = λ b spot.
               let t = o.found b spot in
               let old = t.1 in
-              let ne : y.calls.looked ≢ i = λ same. let z : get_or s.words (hash_at k y.calls.looked) 0 ≡ 0 = ap (λ (c : ℕ). get_or s.words (hash_at k c) 0) same ∙ empty in omega (arith, z, old) in
-              (t.0, other (hash_at k y.calls.looked) (λ q. ne (place_is k y.calls.looked i q)) ∙ old);
+              let ne : y.calls.looked ≢ i = λ same. let z : st.pairs y.calls.looked ≡ 0 = ap st.pairs same ∙ empty in omega (arith, z, old) in
+              (t.0, other y.calls.looked ne ∙ old);
         }
 
-    seeking_any : (q : ℕ) (y : View) → get_elem? s.views q ≡ some y → Seeks k s.words y.calls → (o : Option ℕ) → y.who.number ≡ o → Seeks k ws y.calls
+    seeking_any : (q : ℕ) (y : View) → get_elem? s.views q ≡ some y → Seeks k st.pairs y.calls → (o : Option ℕ) → y.who.number ≡ o → Seeks k qs y.calls
     seeking_any q y there seeks (Some r) numbered = seeking q y there seeks r numbered
     seeking_any q y there seeks None silent = λ x rs frames h.
         absurd (let z = sym (ap (λ (c : Calls). c.frames) (st.silent q y there silent)) ∙ frames in cc z)
 
     pub fill_step : filled_with pc f ≡ Some a → (u : View) → u.who ≡ v.who
         → u.calls ≡ row_of (terms_of k) p (acting k.mode v.calls verb l.index) (Named None) → (homes : List (Maybe S))
-        → Runs k {S = S} (record { words = ws; homes = homes; views = set s.views id u })
+        → Runs k {S = S} (record { words = set s.words (hash_at k i) (pair_number lock a); homes = homes; views = set s.views id u })
     fill_step with_it u who calls homes =
         let d = lands.row_done k s st id v me p is verb l pc begins acts unseen in
-        let long = st.stored.long ∙ far_words k halting in
-        let halted = d.halted ∙ (ap (λ (x : World). x.halted) is_stored ∙ at.acted.same.halted) in
-        let kicked = d.kicked ∙ (ap (λ (x : World). x.kicked) is_stored ∙ at.acted.same.kicked) in
+        let same = at.acted.same in
+        let halted = d.halted ∙ (ap (λ (x : World). x.halted) is_stored ∙ same.halted) in
         lands.lands k s st id v me p is verb l pc begins acts unseen (Named None) (sym met_is)
         (unseen_links m _ at.acted.sound.spins (ap halts (at.acted.same.mode ∙ st.of_plan.mode) ∙ halting) w f pc
         (lands.live k s st id v me p is verb l pc begins acts unseen) acts.place (Named None))
         (λ b mine. inl (bare_me f (lands.o k s st id v me p is verb l pc begins acts unseen).leads b row_bare mine))
         st.marks (marks_stay m n st.marks (ap halts (at.acted.same.mode ∙ st.of_plan.mode) ∙ halting) (lands.marked_here k s st id v me p is verb l pc begins acts unseen))
-        u who calls ws
+        qs u who calls (set s.words (hash_at k i) (pair_number lock a))
+        (hash_written k st.stored n (d.word ∙ (ap (λ (x : World). x.word) is_stored ∙ same.word))
+        (d.rw ∙ (ap (λ (x : World). x.rw) is_stored ∙ same.rw)) nodes
+        (d.kicked ∙ (ap (λ (x : World). x.kicked) is_stored ∙ same.kicked)) i (halting, low) (pair_number lock a))
+        (roll_stays k s.words (OfHash i) (pair_number lock a) (halting, low))
+        (λ q e ne fit r. ap (λ (g : NodeName → Node). node_number r (g (node_name q (st.world.queued q)))) nodes)
+        (λ q e ne fit. counted_after st.world n e (λ b. ap (λ (g : NodeName → Node). (g b).runs) nodes) fit.counted)
         (record {
-          long = length-set s.words (hash_at k i) (pair_number lock a) ∙ st.stored.long;
-          locks = locks_else k st.world n s.words st.stored.locks (hash_at k i) (pair_number lock a) (inr (omega arith)) row_locks;
-          nodes = λ b q lt h has. other (node_at k b q) (λ e. node_hash k i b q lt h e)
-              ∙ (st.stored.nodes b q lt h has ∙ ap (λ (g : NodeName → Node). stored_number (st.marks b) q (node_number q (g b))) (sym nodes));
-        })
-        (other 0 (λ e. omega (arith, e)))
-        (λ q e ne fit. ap (λ (g : NodeName → Node). g (node_name q (st.world.queued q))) nodes)
-        (λ q e ne fit. counted_after st.world n e (sym nodes) fit.counted)
-        (record {
-          words = λ h. let b = st.halting h in
-              record {
-                states = λ c lt high. other (state_at k c) (λ e. omega (arith, e, lt, high, low))
-                    ∙ (b.states c lt high ∙ ap (λ (g : NodeName → Node). state_number (g c).state) (sym nodes));
-                kicks = λ q lt. other (kick_at k q) (λ e. omega (arith, e, lt, low))
-                    ∙ (b.kicks q lt ∙ ap (λ (g : ℕ → Bool). mark_number (g q)) (sym kicked));
-                hash = filled k st.world n s.words i l a b.hash low long node refl near st.lawful.locks empty none (now a with_it);
-              };
+          hashed = λ h. filled k st.world.entry n.entry st.pairs i l a (st.hashed h) low node refl near st.lawful.locks empty none (now a with_it);
           halted = λ q ne. ap (λ (g : ℕ → Bool). g q) halted;
-          seeks = λ q y there seeks ne. seeking_any q y there seeks y.who.number refl;
+          seeks = λ q y there ne. seeking_any q y there (st.seeks q y there) y.who.number refl;
         })
         homes
 
@@ -293,11 +254,11 @@ fill_plays k slots id m number v lock pc halting near acts has a node with_it i 
       subst (λ (z : ℕ). Stand k (record { words = set s.words j z; homes = s.homes; views = set s.views id (went m.0 (Named None)) }))
           (sym (ap (λ b. either b x n) (eq-eqb n 0 none) ∙ is_x))
           (record {
-            runs = fill_step k s st id m.0 me p number.1 halting v lock near pc ask go has i low none a node with_it (went m.0 (Named None)) refl
+            runs = fill_step k s st id m.0 me p number.1 halting v lock near pc ask go has i low (sym (st.stored.words (OfHash i) (halting, low) refl) ∙ none) a node with_it (went m.0 (Named None)) refl
                 (calls_are k id m number v l pc acts s both me (Named None)) s.homes;
             keeps = kept k id m number v l pc acts s both me seen (fill_frees pc has) (Named None)
                 (sym (met_is k s st id m.0 me p number.1 halting v lock near pc ask go has)) (λ e. absurd (fill_off pc has e)) j
-                (pair_number lock a) (hash_bare k i st.lawful.accounts);
+                (pair_number lock a) (bare k st.lawful.accounts (OfHash i) (halting, low));
           }),
       record { fills = λ _. refl; stays = λ e. absurd (e none) },
     ))

@@ -1,8 +1,6 @@
 -- The steps on the kick word of a processor: a halt, and its end.
-use Rattle.std.proofs.Common.{◌≡◌, ◌≢◌, inl, inr, ℕ, ◌<◌, List, [], ◌∷◌, set, get_or, length-set}
+use Rattle.std.proofs.Common.{◌≡◌, ◌≢◌, inl, ℕ, ◌<◌, List, [], ◌∷◌, set, get_or}
 use Rattle.std.proofs.Common.{Option, Some, None, Bool, true, false, eqb, eq-eqb, ne_eqb, refl, sym, ap, ◌∙◌, subst, arith}
-use Rattle.std.proofs.Common.{get_or-set_other, get_or-set_same}
-use Rattle.std.proofs.lemmas.Bool.{cases_eq}
 use Rattle.std.specs.Prelude.{if◌then◌else◌, ◌&&◌, not, is_some}
 use mathlib.Core.Option.{Option as Maybe, some}
 use lib.ListN.{get_elem?}
@@ -31,31 +29,28 @@ use Rattle.lk_law.proofs.running.Calm.{node_comes_at_entry}
 use Rattle.lk_domain.specs.Calls.{terms_of, Running, Calls, StandsOn, Stacked, AreFresh, row_of, acting, Begins}
 use Rattle.lk_domain.specs.Calls.{frame_in, begins_release, is_seeking, is_leaving}
 use Rattle.lk_domain.specs.Plans.{cpus_of}
-use Rattle.lk_domain.specs.Runs.{waiter, node_name, IsStored, IsHalting, SeatFits, Runs, Seeks, seeks_entry, Mirrors}
-use Rattle.lk_domain.specs.Words.{places_of, node_at, node_number, state_at, kick_at, hash_at, state_number, mark_number, stored_number}
-use Rattle.lk_domain.specs.declared.part.Part.{Part}
-use Rattle.lk_domain.specs.declared.part.Part.TheVariants as part
+use Rattle.lk_domain.specs.Runs.{waiter, node_name, SeatFits, Runs, Seeks, seeks_entry, Mirrors}
+use Rattle.lk_domain.specs.Words.{OfKick, with_mark, node_number, kick_at, mark_number}
 use Rattle.lk_domain.specs.declared.plan.Plan.{Plan}
 use Rattle.lk_domain.specs.declared.view.View.{View}
 use Rattle.lk_domain.proofs.Stacks.{frame_in-above}
 use Rattle.lk_domain.proofs.rows.Begun.{same_at, else_at}
 use Rattle.lk_domain.proofs.rows.Grips.{IsOwn, own_row}
-use Rattle.lk_domain.proofs.rows.Halts.{hash_same}
+use Rattle.lk_domain.proofs.rows.Changes.{kick_changes}
 use Rattle.lk_waits.proofs.Attended.{wake_attended}
 use Rattle.lk_domain.proofs.rows.Kept as rule
 use Rattle.lk_domain.proofs.rows.Lands as lands
-use Rattle.lk_domain.proofs.rows.Kept.{counted_after}
+use Rattle.lk_domain.proofs.rows.Kept.{counted_after, halting_same}
+use Rattle.lk_domain.proofs.rows.Writes.{row_step}
 use Rattle.lk_domain.proofs.rows.Poised.{Poised}
 use Rattle.lk_domain.proofs.rows.Sights.{IsSeen}
-use Rattle.lk_domain.proofs.words.Locks.{SameLocks, locks_else, locks_same, locks_trans, acted_locks}
+use Rattle.lk_domain.proofs.words.Written.{renumbered, roll_stays, same_numbers, written}
 use Rattle.lk_domain.proofs.queue.LockSwaps.{set_self}
 use Rattle.lk_domain.proofs.queue.OnNodes.{in_plan, top_live}
 use Rattle.lk_pvdomain.specs.PvRows.{halts_at}
 use Rattle.lk_pvdomain.specs.PvPlays.{stirred, woken}
-use Rattle.lk_pvdomain.proofs.OnStates.{seeks_hash, hash_words}
 use Rattle.lk_domain.proofs.rows.Users.{bare_me}
 use Rattle.lk_pvdomain.proofs.Unmarked.{unseen_links, marks_stay, untold}
-use Rattle.lk_pvdomain.proofs.HashMaps.{far_words}
 
 if_if : {A : Type 0} (b : Bool) (x y z : A) → (if b then x else (if b then y else z)) ≡ (if b then x else z)
 if_if true x y z = refl
@@ -122,16 +117,6 @@ abbrev top_place : List Running → Option Pc
 top_place [] = None
 top_place (r ∷ rs) = r.frame.place
 
--- kick words stand apart
-kick_place : (k : Plan) (p q : ℕ) → kick_at k p ≡ kick_at k q → p ≡ q
-kick_place k p q e = omega (arith, e)
-
-node_kick : (k : Plan) (p : ℕ) (b : NodeName) (q : Part) → b.cpu < cpus_of k → b.index < 4 → node_at k b q ≡ kick_at k p → ⊥
-node_kick k p b part.Flag lt h e = omega (arith, lt, h, e)
-node_kick k p b part.Next lt h e = omega (arith, lt, h, e)
-node_kick k p b part.SecondTail lt h e = omega (arith, lt, h, e)
-node_kick k p b part.Runs lt h e = omega (arith, lt, h, e)
-
 module _ (k : Plan) {S : Type 0} (s : Table S View) (st : Runs k s) (id : ℕ) (v : View)
     (me : get_elem? s.views id ≡ some v) (p : ℕ) (is : v.who.number ≡ Some p)
     (halting : halts k.mode ≡ true) where
@@ -178,16 +163,6 @@ module _ (k : Plan) {S : Type 0} (s : Table S View) (st : Runs k s) (id : ℕ) (
         (lands.row_done k s st id v me p is verb l pc asks acts unseen).node row_bare
         ∙ (ap (λ (z : World). z.node) is_stored ∙ at.acted.same.node)
 
-    row_locks : SameLocks st.world n
-    row_locks =
-        let d = lands.row_done k s st id v me p is verb l pc asks acts unseen in
-        locks_trans (acted_locks at.acted.same)
-        (record {
-          word = d.word ∙ ap (λ (x : World). x.word) is_stored;
-          rw = d.rw ∙ ap (λ (x : World). x.rw) is_stored;
-          kind = d.kind;
-        })
-
     pub halt_step : (u : View) → u.who ≡ v.who
         → u.calls ≡ row_of (terms_of k) p (acting k.mode v.calls verb l.index) (Marked false) → (homes : List (Maybe S))
         → Runs k {S = S} (record {
@@ -196,38 +171,26 @@ module _ (k : Plan) {S : Type 0} (s : Table S View) (st : Runs k s) (id : ℕ) (
           views = set s.views id u;
         })
     halt_step u who calls homes =
-        let j : ℕ = kick_at k p in
-        let same : set s.words j (get_or s.words j 0) ≡ s.words = set_self s.words j in
         let d = lands.row_done k s st id v me p is verb l pc asks acts unseen in
-        let entry = d.entry ∙ (ap (λ (x : World). x.entry) is_stored ∙ at.acted.same.entry) in
-        let kicked = d.kicked ∙ (ap (λ (x : World). x.kicked) is_stored ∙ at.acted.same.kicked) in
-        lands.lands k s st id v me p is verb l pc asks acts unseen (Marked false) (sym met_is)
-        (unseen_links m _ at.acted.sound.spins (ap halts (at.acted.same.mode ∙ st.of_plan.mode) ∙ halting) w f pc
+        let same = at.acted.same in
+        subst (λ (ws : List ℕ). Runs k {S = S} (record { words = ws; homes = homes; views = set s.views id u }))
+        (sym (set_self s.words (kick_at k p)))
+        (lands.lands k s st id v me p is verb l pc asks acts unseen (Marked false) (sym met_is)
+        (unseen_links m _ at.acted.sound.spins (ap halts (same.mode ∙ st.of_plan.mode) ∙ halting) w f pc
         (lands.live k s st id v me p is verb l pc asks acts unseen) acts.place (Marked false))
         (λ b mine. inl (bare_me f (lands.o k s st id v me p is verb l pc asks acts unseen).leads b row_bare mine))
-        st.marks (marks_stay m n st.marks (ap halts (at.acted.same.mode ∙ st.of_plan.mode) ∙ halting) (lands.marked_here k s st id v me p is verb l pc asks acts unseen))
-        u who calls
-        (set s.words j (get_or s.words j 0))
-        (subst (IsStored k n st.marks) (sym same) (record {
-          long = st.stored.long;
-          locks = locks_same k st.world n s.words st.stored.locks row_locks;
-          nodes = λ b q lt h has. st.stored.nodes b q lt h has ∙ ap (λ (g : NodeName → Node). stored_number (st.marks b) q (node_number q (g b))) (sym nodes);
-        }))
-        (ap (λ (ws : List ℕ). get_or ws 0 0) same)
-        (λ q e ne fit. ap (λ (g : NodeName → Node). g (node_name q (st.world.queued q))) nodes)
-        (λ q e ne fit. counted_after st.world n e (sym nodes) fit.counted)
-        (record {
-          words = λ h. let b = st.halting h in
-              subst (IsHalting k n) (sym same) (record {
-                states = λ a lt low. b.states a lt low ∙ ap (λ (g : NodeName → Node). state_number (g a).state) (sym nodes);
-                kicks = λ q lt. b.kicks q lt ∙ ap (λ (g : ℕ → Bool). mark_number (g q)) (sym kicked);
-                hash = hash_same k st.world n s.words entry b.hash;
-              });
-          halted = λ q ne. ap (λ (g : ℕ → Bool). g q) (d.halted ∙ ap (λ (x : World). x.halted) is_stored)
-              ∙ (if-false (eqb q p) true (m.halted q) (ne_eqb q p ne) ∙ ap (λ (g : ℕ → Bool). g q) at.acted.same.halted);
-          seeks = λ j' x here seeks ne. subst (λ (ws : List ℕ). Seeks k ws x.calls) (sym same) seeks;
-        })
-        homes
+        st.marks (marks_stay m n st.marks (ap halts (same.mode ∙ st.of_plan.mode) ∙ halting) (lands.marked_here k s st id v me p is verb l pc asks acts unseen))
+        st.pairs u who calls s.words
+        (renumbered k st.stored n (same_numbers k st.pairs st.world n (d.word ∙ (ap (λ (x : World). x.word) is_stored ∙ same.word))
+        (d.rw ∙ (ap (λ (x : World). x.rw) is_stored ∙ same.rw)) nodes
+        (d.kicked ∙ (ap (λ (x : World). x.kicked) is_stored ∙ same.kicked))))
+        refl
+        (λ q e ne fit r. ap (λ (g : NodeName → Node). node_number r (g (node_name q (st.world.queued q)))) nodes)
+        (λ q e ne fit. counted_after st.world n e (λ b. ap (λ (g : NodeName → Node). (g b).runs) nodes) fit.counted)
+        (halting_same k s st n id p (d.entry ∙ (ap (λ (x : World). x.entry) is_stored ∙ same.entry))
+        (λ q ne. ap (λ (g : ℕ → Bool). g q) (d.halted ∙ ap (λ (x : World). x.halted) is_stored)
+        ∙ (if-false (eqb q p) true (m.halted q) (ne_eqb q p ne) ∙ ap (λ (g : ℕ → Bool). g q) same.halted)))
+        homes)
 
   -- the row by which a kick is remembered, which ends a release
   module _ (verb : Verb) (l : LockName) (asks : Begins k v.calls verb l.index)
@@ -248,73 +211,25 @@ module _ (k : Plan) {S : Type 0} (s : Table S View) (st : Runs k s) (id : ℕ) (
     abbrev m₁ : World
     m₁ = at₁.acted.world
 
-    abbrev n₁ : World
-    n₁ = lands.n k s st id v me p is verb l U5 asks acts (tt, tt)
-
     -- whether one was remembered already
     abbrev pub kick_found : Bool
     kick_found = m₁.kicked q
 
     pub kick_is : get_or s.words (kick_at k q) 0 ≡ mark_number kick_found
     kick_is =
-        (st.halting halting).kicks q near
+        st.stored.words (OfKick q) (halting, near) refl
         ∙ ap (λ (g : ℕ → Bool). mark_number (g q)) (sym at₁.acted.same.kicked)
 
     row_bare₁ : enters (lands.o k s st id v me p is verb l U5 asks acts (tt, tt)).leads ≡ false
     row_bare₁ = node_comes_at_entry m₁ w₁ f₁ U5 refl (lands.fitting k s st id v me p is verb l U5 asks acts (tt, tt)).after (λ e. cc e)
 
-    nodes₁ : n₁.node ≡ st.world.node
-    nodes₁ =
-        (lands.row_done k s st id v me p is verb l U5 asks acts (tt, tt)).node row_bare₁
-        ∙ at₁.acted.same.node
-
     pub kick_step : (u : View) → u.who ≡ v.who
         → u.calls ≡ row_of (terms_of k) p (acting k.mode v.calls verb l.index) (Marked kick_found) → (homes : List (Maybe S))
         → Runs k {S = S} (record { words = set s.words (kick_at k q) 1; homes = homes; views = set s.views id u })
     kick_step u who calls homes =
-        let ws : List ℕ = set s.words (kick_at k q) 1 in
-        let d = lands.row_done k s st id v me p is verb l U5 asks acts (tt, tt) in
-        let long = st.stored.long ∙ far_words k halting in
-        let other : (j : ℕ) → j ≢ kick_at k q → get_or ws j 0 ≡ get_or s.words j 0 =
-        λ j ne. get_or-set_other s.words (kick_at k q) j 1 0 ne in
-        let hashes : (j : ℕ) → j < places_of k → get_or ws (hash_at k j) 0 ≡ get_or s.words (hash_at k j) 0 =
-        λ j lt. other (hash_at k j) (λ e. omega (arith, e, lt)) in
-        let entry = d.entry ∙ at₁.acted.same.entry in
-        let locks = locks_trans (acted_locks at₁.acted.same) (record { word = d.word; rw = d.rw; kind = d.kind }) in
-        lands.lands k s st id v me p is verb l U5 asks acts (tt, tt) (Marked kick_found) refl (λ e. cc e)
-        (λ b mine. inl (bare_me f₁ (lands.o k s st id v me p is verb l U5 asks acts (tt, tt)).leads b row_bare₁ mine))
-        st.marks (marks_stay m₁ n₁ st.marks (ap halts (at₁.acted.same.mode ∙ st.of_plan.mode) ∙ halting) (lands.marked_here k s st id v me p is verb l U5 asks acts (tt, tt)))
-        u who calls ws
-        (record {
-          long = length-set s.words (kick_at k q) 1 ∙ st.stored.long;
-          locks = locks_else k st.world n₁ s.words st.stored.locks (kick_at k q) 1 (inr (omega arith)) locks;
-          nodes = λ b r lt h has. other (node_at k b r) (λ e. node_kick k q b r lt h e)
-              ∙ (st.stored.nodes b r lt h has ∙ ap (λ (g : NodeName → Node). stored_number (st.marks b) r (node_number r (g b))) (sym nodes₁));
-        })
-        (other 0 (λ e. omega (arith, e)))
-        (λ r e ne fit. ap (λ (g : NodeName → Node). g (node_name r (st.world.queued r))) nodes₁)
-        (λ r e ne fit. counted_after st.world n₁ e (sym nodes₁) fit.counted)
-        (record {
-          words = λ h. let b = st.halting h in
-              record {
-                states = λ a lt low. other (state_at k a) (λ e. omega (arith, e, lt, low))
-                    ∙ (b.states a lt low ∙ ap (λ (g : NodeName → Node). state_number (g a).state) (sym nodes₁));
-                kicks = λ r lt. elim (cases_eq r q) [
-                  | inl e ↦ ap (λ (z : ℕ). get_or ws (kick_at k z) 0) e
-                      ∙ (get_or-set_same s.words (kick_at k q) 1 0 (omega (arith, long, near))
-                      ∙ sym (ap (λ (z : ℕ). mark_number (n₁.kicked z)) e
-                      ∙ (ap (λ (g : ℕ → Bool). mark_number (g q)) d.kicked
-                      ∙ ap (λ b. mark_number (if b then true else m₁.kicked q)) (eq-eqb q q refl))))
-                  | inr ne ↦ other (kick_at k r) (λ e. ne (kick_place k r q e))
-                      ∙ (b.kicks r lt ∙ ap mark_number (sym (ap (λ (g : ℕ → Bool). g r) d.kicked
-                      ∙ (if-false (eqb r q) true (m₁.kicked r) (ne_eqb r q ne) ∙ ap (λ (g : ℕ → Bool). g r) at₁.acted.same.kicked))))
-                ];
-                hash = hash_words k st.world n₁ s.words ws entry hashes b.hash;
-              };
-          halted = λ r ne. ap (λ (g : ℕ → Bool). g r) (d.halted ∙ at₁.acted.same.halted);
-          seeks = λ j x here seeks ne. seeks_hash k s.words ws hashes x.calls seeks;
-        })
-        homes
+        row_step k s st id v me p is verb l U5 asks acts (tt, tt) (OfKick q) refl row_bare₁ (halting, near) (λ b r e. cc e)
+        (Marked kick_found) refl (λ e. cc e) 1
+        (sym (ap (λ b. mark_number (if b then true else m₁.kicked q)) (eq-eqb q q refl))) u who calls homes
 
   -- the kick is taken, which ends the halt of the processor's one call
   module _ (x : Running) (is_x : v.calls.frames ≡ x ∷ []) (asleep : v.calls.halted ≡ true) where
@@ -393,14 +308,9 @@ module _ (k : Plan) {S : Type 0} (s : Table S View) (st : Runs k s) (id : ℕ) (
     pub wake_step : (u : View) → u.who ≡ v.who → u.calls ≡ (woken v).calls → (homes : List (Maybe S))
         → Runs k {S = S} (record { words = set s.words (kick_at k p) 0; homes = homes; views = set s.views id u })
     wake_step u who calls homes =
-        let ws : List ℕ = set s.words (kick_at k p) 0 in
         let low : p < cpus_of k = in_plan k s st id v me p is in
-        let long = st.stored.long ∙ far_words k halting in
-        let other : (j : ℕ) → j ≢ kick_at k p → get_or ws j 0 ≡ get_or s.words j 0 =
-        λ j ne. get_or-set_other s.words (kick_at k p) j 0 0 ne in
-        let hashes : (j : ℕ) → j < places_of k → get_or ws (hash_at k j) 0 ≡ get_or s.words (hash_at k j) 0 =
-        λ j lt. other (hash_at k j) (λ e. omega (arith, e, lt)) in
-        rule.keeps k s st id v me p is n' _ st.marks u ws
+        let gone_on : World = roused st.world y x.frame in
+        rule.keeps k s st id v me p is n' _ st.marks st.pairs u (set s.words (kick_at k p) 0)
         (wake_keeps st.world st.histories rules y x.frame st.sound newest live (fits.halted ∙ asleep)).1
         (wake_attended st.world _ y x.frame st.sound.spins newest live (fits.halted ∙ asleep) on' st.attended)
         (record {
@@ -411,38 +321,21 @@ module _ (k : Plan) {S : Type 0} (s : Table S View) (st : Runs k s) (id : ℕ) (
           sockets = st.of_plan.sockets;
           kind = st.of_plan.kind;
         })
-        (record {
-          long = length-set s.words (kick_at k p) 0 ∙ st.stored.long;
-          locks = locks_else k st.world n' s.words st.stored.locks (kick_at k p) 0 (inr (omega arith)) (record { word = refl; rw = refl; kind = refl });
-          nodes = λ b q lt h has. other (node_at k b q) (λ e. node_kick k p b q lt h e) ∙ st.stored.nodes b q lt h has;
-        })
+        (written k st.stored n' st.marks st.pairs (OfKick p) (halting, low) 0
+        (sym (ap (λ b. mark_number (if b then false else st.world.kicked p)) (eq-eqb p p refl)))
+        (λ z there read ne. ap (with_mark st.marks z) ((kick_changes k gone_on p p refl (Some false)).numbers st.pairs z ne
+        ∙ same_numbers k st.pairs st.world gone_on refl refl refl refl z)))
         (record {
           says = λ off. absurd (let z : true ≡ false = sym on' ∙ off in cc z);
           bare = λ h. (rule.right k s st id v me p is).bare on';
         })
-        (other 0 (λ e. omega (arith, e)))
+        (roll_stays k s.words (OfKick p) 0 (halting, low))
         (λ z ne. (if-false _ (Some gone) (st.world.frame z) (else_at z p x.frame.ctx ne), λ j. refl))
-        (λ q ne. refl) (λ q d ne f. refl) (λ q d ne f. counted_after st.world n' d refl f.counted)
+        (λ q ne. refl) (λ q d ne f r. refl) (λ q d ne f. counted_after st.world n' d (λ b. refl) f.counted)
         (λ q d ne f. untold st.world _ st.sound.spins on' n' q d.frames (λ j g at'. f.mirrors.frames j ∙ at')) who
         (subst (SeatFits n' p) (sym (calls ∙ woken_is)) fit')
-        (record {
-          words = λ h. let b = st.halting h in
-              record {
-                states = λ a lt low'. other (state_at k a) (λ e. omega (arith, e, lt, low')) ∙ b.states a lt low';
-                kicks = λ q lt. elim (cases_eq q p) [
-                  | inl e ↦ ap (λ (z : ℕ). get_or ws (kick_at k z) 0) e
-                      ∙ (get_or-set_same s.words (kick_at k p) 0 0 (omega (arith, long, low))
-                      ∙ sym (ap (λ (z : ℕ). mark_number (n'.kicked z)) e
-                      ∙ ap (λ b. mark_number (if b then false else st.world.kicked p)) (eq-eqb p p refl)))
-                  | inr ne ↦ other (kick_at k q) (λ e. ne (kick_place k q p e))
-                      ∙ (b.kicks q lt ∙ ap mark_number (sym (if-false (eqb q p) false (st.world.kicked q) (ne_eqb q p ne))))
-                ];
-                hash = hash_words k st.world n' s.words ws refl hashes b.hash;
-              };
-          halted = λ q ne. if-false (eqb q p) false (st.world.halted q) (ne_eqb q p ne);
-          seeks = λ j z here seeks ne. seeks_hash k s.words ws hashes z.calls seeks;
-        })
-        (subst (Seeks k ws) (sym (calls ∙ woken_is)) (λ z rs e h. absurd (
+        (halting_same k s st n' id p refl (λ q ne. if-false (eqb q p) false (st.world.halted q) (ne_eqb q p ne)))
+        (subst (Seeks k st.pairs) (sym (calls ∙ woken_is)) (λ z rs e h. absurd (
         let q : seeks_entry (after_halt x.frame.place) ≡ seeks_entry z.frame.place = ap (λ (fs : List Running). seeks_entry (top_place fs)) e in
         let r : false ≡ true = sym (after_unsought x.frame.place stood) ∙ (q ∙ h) in cc r)))
         homes

@@ -1,8 +1,7 @@
 -- The steps of who seeks the entry of a lock in the hash: a look at the next place, and the one that takes
 -- the entry out.
-use Rattle.std.proofs.Common.{◌≡◌, ◌≢◌, ◌⊎◌, inl, inr, ℕ, ◌+◌, ◌<◌, ◌≤◌, List, ◌∷◌, set, get_or, length-set, ⊎_elim}
+use Rattle.std.proofs.Common.{◌≡◌, ◌≢◌, ◌⊎◌, inl, inr, ℕ, ◌+◌, ◌<◌, ◌≤◌, List, ◌∷◌, set, get_or, ⊎_elim}
 use Rattle.std.proofs.Common.{Option, Some, None, Bool, true, false, refl, sym, ap, ◌∙◌, subst, arith}
-use Rattle.std.proofs.Common.{get_or-set_other, get_or-set_same}
 use Rattle.std.proofs.lemmas.Bool.{cases_eq, cases_lt}
 use Rattle.std.specs.Prelude.{if◌then◌else◌}
 use mathlib.Core.Option.{Option as Maybe, some}
@@ -36,28 +35,28 @@ use Rattle.lk_domain.specs.Plays.{went}
 use Rattle.lk_domain.specs.Runs.{waiter, node_name, SeatFits, Runs, IsHashed, Seeks, seeks_entry, Sought}
 use Rattle.lk_domain.specs.Stand.{Stand}
 use Rattle.lk_domain.specs.Views.{IsNumbered}
-use Rattle.lk_domain.specs.Words.{version_at, balance_at, places_of, node_at, node_number, state_at, kick_at, hash_at, stored_number}
-use Rattle.lk_domain.specs.Words.{state_number, mark_number, pair_number, IsNode}
+use Rattle.lk_domain.specs.Words.{OfHash, places_of, node_number, hash_at}
+use Rattle.lk_domain.specs.Words.{pair_number, IsNode}
 use Rattle.lk_domain.specs.declared.plan.Plan.{Plan}
 use Rattle.lk_domain.specs.declared.plan.TheConstants.{MOST_LOCKS}
 use Rattle.lk_domain.specs.declared.view.View.{View}
-use Rattle.lk_domain.proofs.journals.Purses.{alters, knows_same}
+use Rattle.lk_domain.proofs.journals.Purses.{alters_at, knows_same}
 use Rattle.lk_domain.proofs.queue.LockSwaps.{set_self}
 use Rattle.lk_domain.proofs.queue.NodePlays.{acts', asks, calls_are, kept, planned}
 use Rattle.lk_domain.proofs.queue.OnNodes.{top_live}
 use Rattle.lk_domain.proofs.rows.Grips.{IsOwn, own_row}
 use Rattle.lk_domain.proofs.rows.Kept as rule
 use Rattle.lk_domain.proofs.rows.Lands as lands
-use Rattle.lk_domain.proofs.rows.Kept.{counted_after}
+use Rattle.lk_domain.proofs.rows.Kept.{counted_after, halting_same}
 use Rattle.lk_domain.proofs.rows.Poised.{Poised}
 use Rattle.lk_domain.proofs.rows.Sights.{IsSeen}
 use Rattle.lk_domain.proofs.seats.Totals.{apart}
-use Rattle.lk_domain.proofs.words.Locks.{SameLocks, locks_else, locks_trans, acted_locks}
+use Rattle.lk_domain.proofs.words.Written.{bare, roll_stays}
 use Rattle.lk_domain.proofs.words.LockPlays.{MayFree}
 use Rattle.lk_pvdomain.specs.PvPlays.{AtSeek, Empties, SeesHash, IsOther, passed_on, spotted}
 use Rattle.lk_pvdomain.specs.PvRows.{erases}
-use Rattle.lk_pvdomain.proofs.HashMaps.{emptied, entry_was, plain_is, place_is, decide, pair_lock, far_words}
-use Rattle.lk_pvdomain.proofs.OnHash.{hash_bare, node_hash, none_some, sought_entry}
+use Rattle.lk_pvdomain.proofs.HashMaps.{emptied, entry_was, plain_is, decide, pair_lock, put_pair, pair_here, pair_else, hash_written}
+use Rattle.lk_pvdomain.proofs.OnHash.{none_some, sought_entry}
 use Rattle.lk_domain.proofs.rows.Users.{bare_me}
 use Rattle.lk_pvdomain.proofs.Unmarked.{unseen_links, marks_stay, erase_off}
 
@@ -157,16 +156,6 @@ module _ (k : Plan) {S : Type 0} (s : Table S View) (st : Runs k s) (id : ℕ) (
       (lands.row_done k s st id v me p is verb l pc begins acts unseen).node row_bare
       ∙ (ap (λ (z : World). z.node) is_stored ∙ at.acted.same.node)
 
-  row_locks : SameLocks st.world n
-  row_locks =
-      let d = lands.row_done k s st id v me p is verb l pc begins acts unseen in
-      locks_trans (acted_locks at.acted.same)
-      (record {
-        word = d.word ∙ ap (λ (x : World). x.word) is_stored;
-        rw = d.rw ∙ ap (λ (x : World). x.rw) is_stored;
-        kind = d.kind;
-      })
-
   -- the entry of the lock alone has gone
   now : (j : LockName) → n.entry j ≡ (if same_lock j l then None else st.world.entry j)
   now j =
@@ -175,15 +164,15 @@ module _ (k : Plan) {S : Type 0} (s : Table S View) (st : Runs k s) (id : ℕ) (
       ∙ (λ i. if same_lock j (acts.lock i) then None else (at.acted.same.entry i) j)
 
   module _ (i : ℕ) (low : i < places_of k) (a : NodeName) (node : IsNode k a)
-      (full : get_or s.words (hash_at k i) 0 ≡ pair_number lock a) where
-    abbrev ws : List ℕ
-    ws = set s.words (hash_at k i) 0
+      (full : st.pairs i ≡ pair_number lock a) where
+    abbrev qs : ℕ → ℕ
+    qs = put_pair st.pairs i 0
 
-    other : (j : ℕ) → j ≢ hash_at k i → get_or ws j 0 ≡ get_or s.words j 0
-    other j ne = get_or-set_other s.words (hash_at k i) j 0 0 ne
+    other : (j : ℕ) → j ≢ i → qs j ≡ st.pairs j
+    other j ne = pair_else st.pairs i 0 j ne
 
     was : st.world.entry l ≡ Some a
-    was = entry_was k st.world n s.words i l a (st.halting halting).hash low (st.stored.long ∙ far_words k halting) node refl near st.lawful.locks full now
+    was = entry_was k st.world.entry n.entry st.pairs i l a (st.hashed halting) low node refl near st.lawful.locks full now
 
     pub met_is : met_in m w f (target pc f) ≡ Named (Some a)
     met_is =
@@ -191,10 +180,10 @@ module _ (k : Plan) {S : Type 0} (s : Table S View) (st : Runs k s) (id : ℕ) (
         ∙ ap Named (ap (λ (g : LockName → Option NodeName). g f.lock) at.acted.same.entry ∙ (ap st.world.entry acts.lock ∙ was))
 
     -- who else seeks an entry seeks that of another lock
-    seeking : (q : ℕ) (y : View) → get_elem? s.views q ≡ some y → Seeks k s.words y.calls → q ≢ id → (r : ℕ) → y.who.number ≡ Some r → Seeks k ws y.calls
+    seeking : (q : ℕ) (y : View) → get_elem? s.views q ≡ some y → Seeks k st.pairs y.calls → q ≢ id → (r : ℕ) → y.who.number ≡ Some r → Seeks k qs y.calls
     seeking q y there seeks off r numbered x rs frames h =
         let o = seeks x rs frames h in
-        let hash = (st.halting halting).hash in
+        let hash = st.hashed halting in
         let live = top_live k s st q y there r numbered (st.seats q y r there numbered) x rs frames in
         let some = sought_entry st.world _ (waiter r x.frame.ctx) x.frame st.sound.spins (ap halts st.of_plan.mode ∙ halting) live h in
         let e = hash.entered x.frame.lock some.0 some.1 in
@@ -209,59 +198,47 @@ module _ (k : Plan) {S : Type 0} (s : Table S View) (st : Runs k s) (id : ℕ) (
         record {
           passed = λ j b lt fit is_pair. elim (cases_eq j i) [
             | inl same ↦
-                let z : get_or ws (hash_at k j) 0 ≡ 0 = ap (λ (c : ℕ). get_or ws (hash_at k c) 0) same
-                ∙ get_or-set_same s.words (hash_at k i) 0 0 (let long = st.stored.long ∙ far_words k halting in omega (arith, low, long)) in
+                let z : qs j ≡ 0 = ap qs same ∙ pair_here st.pairs i 0 in
                 absurd (omega (arith, z, is_pair))
-            | inr off' ↦ o.passed j b lt fit (sym (other (hash_at k j) (λ c. off' (place_is k j i c))) ∙ is_pair)
+            | inr off' ↦ o.passed j b lt fit (sym (other j off') ∙ is_pair)
           ];
           inside = o.inside;
           found = λ b spot.
               let t = o.found b spot in
               let old = t.1 in
               let off' : y.calls.looked ≢ i = λ same. differ (pair_lock lock x.frame.lock.index a b (omega (arith, near, few)) high
-              (sym full ∙ (ap (λ (c : ℕ). get_or s.words (hash_at k c) 0) (sym same) ∙ old))) in
-              (t.0, other (hash_at k y.calls.looked) (λ c. off' (place_is k y.calls.looked i c)) ∙ old);
+              (sym full ∙ (ap st.pairs (sym same) ∙ old))) in
+              (t.0, other y.calls.looked off' ∙ old);
         }
 
     pub erase_step : (u : View) → u.who ≡ v.who
         → u.calls ≡ row_of (terms_of k) p (acting k.mode v.calls verb l.index) (Named (Some a)) → (homes : List (Maybe S))
-        → Runs k {S = S} (record { words = ws; homes = homes; views = set s.views id u })
+        → Runs k {S = S} (record { words = set s.words (hash_at k i) 0; homes = homes; views = set s.views id u })
     erase_step u who calls homes =
         let d = lands.row_done k s st id v me p is verb l pc begins acts unseen in
-        let long = st.stored.long ∙ far_words k halting in
-        let halted = d.halted ∙ (ap (λ (x : World). x.halted) is_stored ∙ at.acted.same.halted) in
-        let kicked = d.kicked ∙ (ap (λ (x : World). x.kicked) is_stored ∙ at.acted.same.kicked) in
+        let same = at.acted.same in
+        let halted = d.halted ∙ (ap (λ (x : World). x.halted) is_stored ∙ same.halted) in
         lands.lands k s st id v me p is verb l pc begins acts unseen (Named (Some a)) (sym met_is)
         (unseen_links m _ at.acted.sound.spins (ap halts (at.acted.same.mode ∙ st.of_plan.mode) ∙ halting) w f pc
         (lands.live k s st id v me p is verb l pc begins acts unseen) acts.place (Named (Some a)))
         (λ b mine. inl (bare_me f (lands.o k s st id v me p is verb l pc begins acts unseen).leads b row_bare mine))
         st.marks (marks_stay m n st.marks (ap halts (at.acted.same.mode ∙ st.of_plan.mode) ∙ halting) (lands.marked_here k s st id v me p is verb l pc begins acts unseen))
-        u who calls ws
+        qs u who calls (set s.words (hash_at k i) 0)
+        (hash_written k st.stored n (d.word ∙ (ap (λ (x : World). x.word) is_stored ∙ same.word))
+        (d.rw ∙ (ap (λ (x : World). x.rw) is_stored ∙ same.rw)) nodes
+        (d.kicked ∙ (ap (λ (x : World). x.kicked) is_stored ∙ same.kicked)) i (halting, low) 0)
+        (roll_stays k s.words (OfHash i) 0 (halting, low))
+        (λ q e ne fit r. ap (λ (g : NodeName → Node). node_number r (g (node_name q (st.world.queued q)))) nodes)
+        (λ q e ne fit. counted_after st.world n e (λ b. ap (λ (g : NodeName → Node). (g b).runs) nodes) fit.counted)
         (record {
-          long = length-set s.words (hash_at k i) 0 ∙ st.stored.long;
-          locks = locks_else k st.world n s.words st.stored.locks (hash_at k i) 0 (inr (omega arith)) row_locks;
-          nodes = λ b q lt h has. other (node_at k b q) (λ e. node_hash k i b q lt h e)
-              ∙ (st.stored.nodes b q lt h has ∙ ap (λ (g : NodeName → Node). stored_number (st.marks b) q (node_number q (g b))) (sym nodes));
-        })
-        (other 0 (λ e. omega (arith, e)))
-        (λ q e ne fit. ap (λ (g : NodeName → Node). g (node_name q (st.world.queued q))) nodes)
-        (λ q e ne fit. counted_after st.world n e (sym nodes) fit.counted)
-        (record {
-          words = λ h. let b = st.halting h in
-              record {
-                states = λ c lt high. other (state_at k c) (λ e. omega (arith, e, lt, high, low))
-                    ∙ (b.states c lt high ∙ ap (λ (g : NodeName → Node). state_number (g c).state) (sym nodes));
-                kicks = λ q lt. other (kick_at k q) (λ e. omega (arith, e, lt, low))
-                    ∙ (b.kicks q lt ∙ ap (λ (g : ℕ → Bool). mark_number (g q)) (sym kicked));
-                hash = emptied k st.world n s.words i l a b.hash low long node refl near st.lawful.locks full now;
-              };
+          hashed = λ h. emptied k st.world.entry n.entry st.pairs i l a (st.hashed h) low node refl near st.lawful.locks full now;
           halted = λ q ne. ap (λ (g : ℕ → Bool). g q) halted;
-          seeks = λ q y there seeks ne. seeking_any q y there seeks ne y.who.number refl;
+          seeks = λ q y there ne. seeking_any q y there (st.seeks q y there) ne y.who.number refl;
         })
         homes
       where
-        seeking_any : (q : ℕ) (y : View) → get_elem? s.views q ≡ some y → Seeks k s.words y.calls → q ≢ id
-            → (o : Option ℕ) → y.who.number ≡ o → Seeks k ws y.calls
+        seeking_any : (q : ℕ) (y : View) → get_elem? s.views q ≡ some y → Seeks k st.pairs y.calls → q ≢ id
+            → (o : Option ℕ) → y.who.number ≡ o → Seeks k qs y.calls
         seeking_any q y there seeks ne (Some r) numbered = seeking q y there seeks ne r numbered
         seeking_any q y there seeks ne None silent = λ x rs frames h.
             absurd (let z = sym (ap (λ (c : Calls). c.frames) (st.silent q y there silent)) ∙ frames in cc z)
@@ -283,8 +260,9 @@ erase_plays k slots id m number v lock pc halting near acts has b spot s both lo
     let few = st.lawful.locks in
     let o = st.seeks id m.0 me (running v acts.frame acts.trail) acts.rest acts.is (ap seeks_entry acts.place ∙ erase_seeks pc has) in
     let t = o.found b spot in
-    let full : get_or s.words j 0 ≡ pair_number lock b = t.1 ∙ ap (λ (x : LockName). pair_number x.index b) acts.lock in
-    let there : (a : NodeName) × IsNode k a × (get_or s.words j 0 ≡ pair_number lock a) = elim ((st.halting halting).hash.placed i t.0) [
+    let full : st.pairs i ≡ pair_number lock b = t.1 ∙ ap (λ (x : LockName). pair_number x.index b) acts.lock in
+    let word : get_or s.words j 0 ≡ st.pairs i = st.stored.words (OfHash i) (halting, t.0) refl in
+    let there : (a : NodeName) × IsNode k a × (st.pairs i ≡ pair_number lock a) = elim ((st.hashed halting).placed i t.0) [
       | inl z ↦ absurd (omega (arith, z, full))
       | inr r ↦
           let same : r.0 ≡ lock = pair_lock r.0 lock r.1 b (let z = r.3 in omega (arith, z, few)) (omega (arith, near, few)) (sym r.5 ∙ full) in
@@ -300,12 +278,12 @@ erase_plays k slots id m number v lock pc halting near acts has b spot s both lo
             (calls_are k id m number v l pc acts s both me (Named (Some a))) s.homes;
         keeps = kept k id m number v l pc acts s both me seen (erase_frees pc has) (Named (Some a))
             (sym (met_is k s st id m.0 me p number.1 halting v lock near pc ask go has i t.0 a there.1 there.2)) (λ e. absurd (erase_off pc has e)) j 0
-            (hash_bare k i st.lawful.accounts);
+            (bare k st.lawful.accounts (OfHash i) (halting, t.0));
       },
       λ x rs frames. record {
         node = a;
         near = subst (λ (q : Plan). IsNode q a) (sym plan) there.1;
-        word = there.2 ∙ ap (λ (c : LockName). pair_number c.index a) (sym acts.lock ∙ top_lock acts.is frames);
+        word = word ∙ (there.2 ∙ ap (λ (c : LockName). pair_number c.index a) (sym acts.lock ∙ top_lock acts.is frames));
         seat = refl;
       },
     )
@@ -352,7 +330,7 @@ module _ (k : Plan) {S : Type 0} (s : Table S View) (st : Runs k s) (id : ℕ) (
         halted = fits₂.halted;
       }
 
-  pub look_step : (i : ℕ) (n : ℕ) (o : Option NodeName) → Seeks k s.words (record v.calls { looked = n; spot = o }) → (homes : List (Maybe S))
+  pub look_step : (i : ℕ) (n : ℕ) (o : Option NodeName) → Seeks k st.pairs (record v.calls { looked = n; spot = o }) → (homes : List (Maybe S))
       → Runs k {S = S} (record {
         words = set s.words i (get_or s.words i 0);
         homes = homes;
@@ -362,21 +340,17 @@ module _ (k : Plan) {S : Type 0} (s : Table S View) (st : Runs k s) (id : ℕ) (
       let same : set s.words i (get_or s.words i 0) ≡ s.words = set_self s.words i in
       let u : View = record v { calls = record v.calls { looked = n; spot = o } } in
       subst (λ (ws : List ℕ). Runs k {S = S} (record { words = ws; homes = homes; views = set s.views id u })) (sym same)
-      (rule.keeps k s st id v me p is st.world st.histories st.marks u s.words st.sound st.attended st.of_plan st.stored
+      (rule.keeps k s st id v me p is st.world st.histories st.marks st.pairs u s.words st.sound st.attended st.of_plan st.stored
       (rule.right k s st id v me p is) refl
-      (λ z ne. (refl, λ j. refl)) (λ q ne. refl) (λ q d ne f. refl) (λ q d ne f. f.counted) (λ q d ne f. f.told) refl (noted n o)
-      (record {
-        words = st.halting;
-        halted = λ q ne. refl;
-        seeks = λ j x at old ne. old;
-      })
+      (λ z ne. (refl, λ j. refl)) (λ q ne. refl) (λ q d ne f r. refl) (λ q d ne f. f.counted) (λ q d ne f. f.told) refl (noted n o)
+      (halting_same k s st st.world id p refl (λ q ne. refl))
       seeks homes)
 
 -- where the lock has an entry, and none of so many places has it, there is a place left
-more_left : (k : Plan) (w : World) (ws : List ℕ) (l : LockName) (n : ℕ) → IsHashed k w ws → locks_of k ≤ MOST_LOCKS
-    → (a : NodeName) → w.entry l ≡ Some a
-    → ((i : ℕ) (b : NodeName) → i < n → IsNode k b → get_or ws (hash_at k i) 0 ≢ pair_number l.index b) → n < places_of k
-more_left k w ws l n h few a there passed =
+more_left : (k : Plan) (entry : LockName → Option NodeName) (pairs : ℕ → ℕ) (l : LockName) (n : ℕ) → IsHashed k entry pairs
+    → locks_of k ≤ MOST_LOCKS → (a : NodeName) → entry l ≡ Some a
+    → ((i : ℕ) (b : NodeName) → i < n → IsNode k b → pairs i ≢ pair_number l.index b) → n < places_of k
+more_left k entry pairs l n h few a there passed =
     let r = h.entered l a there in
     let low = r.1 in
     elim (cases_lt n (places_of k)) [
@@ -403,21 +377,19 @@ look_plays k slots id m number v lock pc halting near acts has low s both long m
     let x₀ : Running = running v acts.frame acts.trail in
     let o = st.seeks id m.0 me x₀ acts.rest acts.is (ap seeks_entry acts.place ∙ erase_seeks pc has) in
     let plan : m.0.who.plan ≡ k = planned k id m number v l pc acts s both me in
-    let bare = hash_bare k i st.lawful.accounts in
-    let keep : (n : ℕ) (a : Option NodeName) → Sought k s.words acts.frame.lock.index n a
+    let bare = bare k st.lawful.accounts (OfHash i) (halting, low) in
+    let keep : (n : ℕ) (a : Option NodeName) → Sought k st.pairs acts.frame.lock.index n a
     → Stand k (record { words = set s.words j (get_or s.words j 0); homes = s.homes; views = set s.views id (record m.0 { calls = record m.0.calls { looked = n; spot = a } }) }) =
     λ n a sought. record {
       runs = look_step k s st id m.0 me p number.1 j n a
-          (λ x rs frames h. subst (λ (z : LockName). Sought k s.words z.index n a) (top_lock acts.is frames) sought) s.homes;
-      keeps = alters k s both.keeps id m.0 (record m.0 { calls = record m.0.calls { looked = n; spot = a } }) (set s.words j (get_or s.words j 0)) me refl
-          (knows_same k both.keeps.journal m.0 (record m.0 { calls = record m.0.calls { looked = n; spot = a } }) (both.keeps.knows id m.0 me) refl refl refl refl (λ l x is. is))
-          (get_or-set_other s.words j 0 (get_or s.words j 0) 0 (λ e. bare.roll (sym e)))
-          (get_or-set_other s.words j version_at (get_or s.words j 0) 0 (λ e. bare.version (sym e)))
-          (λ a lt. get_or-set_other s.words j (balance_at k a) (get_or s.words j 0) 0 (λ e. bare.balances a lt (sym e))) refl refl;
+          (λ x rs frames h. subst (λ (z : LockName). Sought k st.pairs z.index n a) (top_lock acts.is frames) sought) s.homes;
+      keeps = alters_at k s both.keeps id m.0 (record m.0 { calls = record m.0.calls { looked = n; spot = a } }) j (get_or s.words j 0) bare me refl
+          (knows_same k both.keeps.journal m.0 (record m.0 { calls = record m.0.calls { looked = n; spot = a } }) (both.keeps.knows id m.0 me) refl refl refl refl (λ l x is. is)) refl refl;
     } in
-    let value : ℕ = get_or s.words j 0 in
+    let value : ℕ = st.pairs i in
+    let word : value ≡ get_or s.words j 0 = sym (st.stored.words (OfHash i) (halting, low) refl) in
     let decided : ((a : NodeName) × IsNode k a × (value ≡ pair_number lock a)) ⊎ (IsOther lock value × ((a : NodeName) → IsNode k a → value ≢ pair_number lock a)) =
-    decide k st.world s.words i lock (st.halting halting).hash low near few in
+    decide k st.world.entry st.pairs i lock (st.hashed halting) low near few in
     let lock_of : (x : Running) (rs : List Running) → m.0.calls.frames ≡ x ∷ rs → x.frame.lock.index ≡ lock =
     λ x rs frames. ap (λ (c : LockName). c.index) (sym (top_lock acts.is frames) ∙ acts.lock) in
     ⊎_elim
@@ -434,22 +406,22 @@ look_plays k slots id m number v lock pc halting near acts has low s both long m
         here = inl (
           there.0,
           subst (λ (q : Plan). IsNode q there.0) (sym plan) there.1,
-          there.2 ∙ ap (λ (c : ℕ). pair_number c there.0) (sym (lock_of x rs frames)),
+          sym word ∙ (there.2 ∙ ap (λ (c : ℕ). pair_number c there.0) (sym (lock_of x rs frames))),
           refl,
         );
         inside = subst (λ (q : Plan). i < places_of q) (sym plan) low;
       },
     ))
     (λ none.
-    let passed : (q : ℕ) (a : NodeName) → q < i + 1 → IsNode k a → get_or s.words (hash_at k q) 0 ≢ pair_number acts.frame.lock.index a =
+    let passed : (q : ℕ) (a : NodeName) → q < i + 1 → IsNode k a → st.pairs q ≢ pair_number acts.frame.lock.index a =
     λ q a lt fit. elim (cases_eq q i) [
-      | inl same ↦ λ e. none.1 a fit (ap (λ (c : ℕ). get_or s.words (hash_at k c) 0) (sym same) ∙ (e ∙ ap (λ (c : LockName). pair_number c.index a) acts.lock))
+      | inl same ↦ λ e. none.1 a fit (ap st.pairs (sym same) ∙ (e ∙ ap (λ (c : LockName). pair_number c.index a) acts.lock))
       | inr ne ↦ o.passed q a (omega (arith, lt, ne)) fit
     ] in
     let live = top_live k s st id m.0 me p number.1 (st.seats id m.0 p me number.1) x₀ acts.rest acts.is in
     let some = sought_entry st.world _ (waiter p acts.frame.ctx) acts.frame st.sound.spins (ap halts st.of_plan.mode ∙ halting) live
     (ap seeks_entry acts.place ∙ erase_seeks pc has) in
-    let more : i + 1 < places_of k = more_left k st.world s.words acts.frame.lock (i + 1) (st.halting halting).hash few some.0 some.1 passed in (
+    let more : i + 1 < places_of k = more_left k st.world.entry st.pairs acts.frame.lock (i + 1) (st.hashed halting) few some.0 some.1 passed in (
       passed_on m.0,
       keeps,
       tt,
@@ -459,7 +431,7 @@ look_plays k slots id m number v lock pc halting near acts has low s both long m
         found = λ a e. absurd (none_some e);
       }),
       λ x rs frames. record {
-        here = inr (subst (λ (c : ℕ). IsOther c value) (sym (lock_of x rs frames)) none.0, refl);
+        here = inr (subst (λ (z : ℕ). IsOther x.frame.lock.index z) word (subst (λ (c : ℕ). IsOther c value) (sym (lock_of x rs frames)) none.0), refl);
         inside = subst (λ (q : Plan). i + 1 < places_of q) (sym plan) more;
       },
     )) decided

@@ -12,7 +12,7 @@ ghost use Rattle.lk_pvdomain.specs.PvCalls.{HasTried, IsAsItWas};
 ghost use Rattle.lk_pvdomain.specs.PvPaths.{At, Ended, Start};
 ghost use Rattle.lk_pvdomain.specs.PvReleases.{has_freed, kicked_in, whom};
 
-use crate::layout::CPU_PAIRS;
+use crate::layout::{CPU_PAIRS, FIRST_PAIR};
 use crate::{hash, kicks, tries, words};
 use lk_domain::moves::WordUse;
 use lk_domain::{Domain, Right};
@@ -106,7 +106,7 @@ fn kick_next(seat: &mut Right, domain: &Domain, lock: u32) -> u32
 {
     let pair = hash::take_out(seat, domain, lock);
     words::go_on(seat, domain, lock, WordUse::Drops);
-    let target = ((pair - 1) / CPU_PAIRS) as u32;
+    let target = ((pair - FIRST_PAIR) / CPU_PAIRS) as u32;
     kicks::kick(seat, domain, target);
     target
 }

@@ -9,7 +9,7 @@ ghost use Rattle.lk_word.specs.declared.spin_word.NodeName.{NodeName as Name};
 ghost use Rattle.lk_pvdomain.specs.PvPaths.{IsOn};
 ghost use Rattle.lk_pvdomain.specs.PvPlays.{AtFill, AtSeek, EmptiesAt, Fills, SeesPlace, looked_at};
 
-use crate::layout::{LOCKS, pair_of, place_of, places};
+use crate::layout::{FIRST_PAIR, LOCKS, pair_of, place_of, places};
 use crate::rule::{Erasings, Fillings, PlaceLooks};
 use lk_domain::{Domain, Right};
 use lk_word::NodeName;
@@ -87,7 +87,7 @@ pub(crate) fn find(seat: &mut Right, domain: &Domain, lock: u32) -> usize
 {
     for place in 0..places(domain) {
         let met = look_place(seat, domain, lock, place);
-        if met != 0 && (met - 1) % LOCKS == lock as u64 {
+        if met != 0 && (met - FIRST_PAIR) % LOCKS == lock as u64 {
             return place;
         }
     }

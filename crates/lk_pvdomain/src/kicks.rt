@@ -12,6 +12,9 @@ use lk_domain::{Domain, Right};
 use lk_word::NodeName;
 use std::sync::Wait;
 
+// The number of a kick word whose kick is remembered.
+const KICKED: u64 = 1;
+
 // The processor halts, in a read of its kick word: the rows W6 and E12.
 pub(crate) fn halt(seat: &mut Right, domain: &Domain, own: NodeName) -> u64
     requires of { IsSeat domain.now own seat.old.table_id seat.old.me }
@@ -64,7 +67,7 @@ pub(crate) fn kick(seat: &mut Right, domain: &Domain, target: u32) -> u64
     ensures step { Kicks seat.old.me result seat.new.me }
 {
     let word = kick_of(domain, target);
-    let met = domain.table.shared.swap::<KickStores>(seat, word, 1);
+    let met = domain.table.shared.swap::<KickStores>(seat, word, KICKED);
     met
 }
 

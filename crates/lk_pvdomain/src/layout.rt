@@ -3,13 +3,11 @@ ghost use Rattle.std.specs.Prelude.{◌≡◌, ◌<◌};
 ghost use Rattle.lk_domain.specs.Plans.{cpus_of, locks_of};
 ghost use Rattle.lk_domain.specs.Words.{IsNode, hash_at, kick_at, pair_number, places_of, state_at};
 
-use lk_domain::{Domain, MOST_CPUS, MOST_LOCKS};
+use lk_domain::{Domain, KICK_WORDS, MOST_CPUS, MOST_LOCKS, NODES};
 use lk_word::NodeName;
 
-// The nodes of a processor. Each has a word for its state, and there are as many places in the hash.
-const NODES: usize = 4;
-// From one kick word to the next: a line of the cache.
-const KICK_WORDS: usize = 8;
+// The number of the first pair of a lock and a node, since 0 is an empty place of the hash.
+pub(crate) const FIRST_PAIR: u64 = 1;
 // What the number of a node counts for in that of a lock and a node: as many as there can be locks.
 pub(crate) const LOCKS: u64 = MOST_LOCKS as u64;
 // And what a processor counts for there, by its nodes.
@@ -44,7 +42,7 @@ pub(crate) fn pair_of(domain: &Domain, lock: u32, node: NodeName) -> u64
 {
     prove!(domain.plan.locks.len() <= MOST_LOCKS);
     prove!(domain.plan.topology.sockets.len() <= MOST_CPUS);
-    1 + lock as u64 + LOCKS * (NODES as u64 * node.cpu as u64 + node.index as u64)
+    FIRST_PAIR + lock as u64 + LOCKS * (NODES as u64 * node.cpu as u64 + node.index as u64)
 }
 
 // How many places the hash has.

@@ -71,7 +71,7 @@ pub(crate) fn rouse(seat: &mut Right, domain: &Domain, node: NodeName, state: St
     let met = domain
         .table
         .shared
-        .compare_exchange::<StateSteps>(seat, word, 1, number);
+        .compare_exchange::<StateSteps>(seat, word, HALTED, number);
     met
 }
 

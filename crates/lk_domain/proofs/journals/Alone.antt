@@ -1,6 +1,6 @@
 -- Who holds lock 0 alone is one seat; and a step on a word of the ledger leaves the machine part.
-use Rattle.std.proofs.Common.{◌≡◌, ◌≢◌, ◌⊎◌, inl, inr, ⊎_elim, ℕ, ◌+◌, ◌*◌, ◌<◌, ◌≤◌, List, set, get_or, Option, Some}
-use Rattle.std.proofs.Common.{None, true, false, refl, sym, ap, ◌∙◌, subst, arith, length-set, get_or-set_other}
+use Rattle.std.proofs.Common.{◌≡◌, ◌≢◌, ◌⊎◌, inl, inr, ⊎_elim, ℕ, ◌<◌, ◌≤◌, List, set, get_or, Option, Some}
+use Rattle.std.proofs.Common.{None, true, false, refl, sym, ap, ◌∙◌, subst, arith, get_or-set_other}
 use mathlib.Core.Option.{Option as Maybe, some, some-injective}
 use lib.ListN.{get_elem?}
 use Rattle.atomic_table.specs.Table.{State}
@@ -17,20 +17,18 @@ use Rattle.lk_law.proofs.running.Holds.{holder_is_one}
 use Rattle.lk_domain.specs.Calls.{Calls, no_calls, lock_name}
 use Rattle.lk_domain.specs.Keeps.{Slot, any_count, sole_count, is_sole, holds_first, Keeps, AtHome, Away}
 use Rattle.lk_domain.specs.Ledgers.{Out}
-use Rattle.lk_domain.specs.Plans.{locks_of}
 use Rattle.lk_domain.specs.Runs.{Runs, SeatFits, waiter, Seeks}
 use Rattle.lk_domain.specs.Stand.{Stand}
 use Rattle.lk_domain.specs.Views.{IsNumbered}
 use Rattle.lk_domain.specs.Who.{Who}
-use Rattle.lk_domain.specs.Words.{node_at}
+use Rattle.lk_domain.specs.Words.{Place, place_at, IsPlace}
 use Rattle.lk_domain.specs.declared.plan.Plan.{Plan}
 use Rattle.lk_domain.specs.declared.view.View.{View}
 use Rattle.lk_domain.proofs.journals.Held.{any_some, sole_le, sole_some}
-use Rattle.lk_domain.proofs.words.Locks.{IsApart, locks_else, same_locks}
+use Rattle.lk_domain.proofs.words.Written.{unwritten}
 use Rattle.lk_domain.proofs.Manners.{held_spun}
 use Rattle.lk_domain.proofs.rows.Kept as rule
 use Rattle.lk_domain.proofs.rows.Kept.{SameWho, halting_same}
-use Rattle.lk_domain.proofs.rows.Halts.{same_marks, far_set, seeks_same}
 use Rattle.lk_domain.proofs.Stacks.{holder_of}
 use Rattle.lk_domain.proofs.seats.Totals.{apart}
 
@@ -123,28 +121,21 @@ module _ (k : Plan) (s : State Slot View) (both : Stand k s) (id : ℕ) (v : Vie
 -- a word of the ledger
 pub record IsPage (k : Plan) (i : ℕ) : Type 0 where
   pub low : 0 < i
-  pub below : i < 72 + 8 * locks_of k
-  pub apart : IsApart k i
+  pub apart : (x : Place) → IsPlace k x → place_at k x ≢ i
 
 module _ (k : Plan) {S : Type 0} (s : State S View) (st : Runs k s) (id : ℕ) (v : View)
     (me : get_elem? s.views id ≡ some v) (n : IsNumbered v) where
   -- the machine part, where a word of the ledger is written, and the calls of a seat are in its place
   pub paged_as : (w : View) → SameWho v.who w.who → SeatFits st.world n.0 w.calls → (i x : ℕ) → IsPage k i
-      → Seeks k (set s.words i x) w.calls → (homes : List (Maybe S))
+      → Seeks k st.pairs w.calls → (homes : List (Maybe S))
       → Runs k {S = S} (record { words = set s.words i x; homes = homes; views = set s.views id w })
   paged_as w who fit i x page seeks homes =
-      let far = far_set k s.words i x (let b = page.below in omega (arith, b)) in
-      rule.keeps_as k s st id v me n.0 n.1 st.world st.histories st.marks w (set s.words i x) st.sound st.attended st.of_plan
-      (record {
-        long = length-set s.words i x ∙ st.stored.long;
-        locks = locks_else k st.world st.world s.words st.stored.locks i x page.apart (same_locks st.world);
-        nodes = λ y q cpu index has. get_or-set_other s.words i (node_at k y q) x 0 (let b = page.below in λ e. omega arith)
-            ∙ st.stored.nodes y q cpu index has;
-      })
+      rule.keeps_as k s st id v me n.0 n.1 st.world st.histories st.marks st.pairs w (set s.words i x) st.sound st.attended st.of_plan
+      (unwritten k st.stored i x page.apart)
       (rule.right k s st id v me n.0 n.1)
       (get_or-set_other s.words i 0 x 0 (let b = page.low in λ e. omega arith))
-      (λ u ne. (refl, λ l. refl)) (λ q ne. refl) (λ q d ne f. refl) (λ q d ne f. f.counted) (λ q d ne f. f.told) who fit
-      (halting_same k s st.world st.world (set s.words i x) id n.0 far (same_marks st.world) (λ b. refl) st.halting)
+      (λ u ne. (refl, λ l. refl)) (λ q ne. refl) (λ q d ne f r. refl) (λ q d ne f. f.counted) (λ q d ne f. f.told) who fit
+      (halting_same k s st st.world id n.0 refl (λ q ne. refl))
       seeks homes
 
   -- and where it keeps its calls
@@ -160,6 +151,4 @@ module _ (k : Plan) {S : Type 0} (s : State S View) (st : Runs k s) (id : ℕ) (
         dealt = ap (λ (x : Who). x.dealt) who;
       })
       (subst (SeatFits st.world n.0) (sym calls) (st.seats id v n.0 me n.1)) i x page
-      (subst (Seeks k (set s.words i x)) (sym calls)
-      (seeks_same k s.words (set s.words i x) (far_set k s.words i x (let b = page.below in omega (arith, b))) v.calls
-      (st.seeks id v me))) homes
+      (subst (Seeks k st.pairs) (sym calls) (st.seeks id v me)) homes

@@ -1,5 +1,5 @@
 -- What the steps ask that read a word of the ledger.
-use Rattle.std.proofs.Common.{◌≡◌, ◌≢◌, inl, inr, ⊎_elim, ℕ, ◌+◌, ◌-◌, ◌<◌, ◌≤◌, List, [], ◌∷◌, length, set}
+use Rattle.std.proofs.Common.{◌≡◌, ◌≢◌, inr, ⊎_elim, ℕ, ◌+◌, ◌-◌, ◌<◌, ◌≤◌, List, [], ◌∷◌, length, set}
 use Rattle.std.proofs.Common.{get_or, Option, Some, None, refl, sym, ap, ◌∙◌, subst, arith, length-set}
 use mathlib.Core.Option.{none, some}
 use lib.ListN.{get_elem?}
@@ -26,6 +26,7 @@ use Rattle.lk_domain.specs.declared.plan.Plan.{Plan}
 use Rattle.lk_domain.specs.declared.slot.Stowed.TheVariants.{Entries}
 use Rattle.lk_domain.specs.declared.view.View.{View}
 use Rattle.lk_domain.proofs.journals.Alone as alone
+use Rattle.lk_domain.proofs.words.Written.{bare, behind}
 use Rattle.lk_domain.proofs.journals.Alone.{IsPage, paged, some_out, out_is}
 use Rattle.lk_domain.proofs.journals.Held.{any_once, sole_le}
 use Rattle.lk_domain.proofs.rows.Kept.{set_at}
@@ -36,16 +37,12 @@ use Rattle.lk_domain.proofs.seats.Totals.{total-same, term_le}
 
 pub version_page : (k : Plan) → IsPage k version_at
 version_page k =
-    record { low = omega arith; below = omega arith; apart = inl (omega arith) }
+    record { low = omega arith; apart = λ x h e. let a = behind k x h in omega (arith, e, a) }
 
 pub balance_page : (k : Plan) → IsRunningPlan k → (a : ℕ) → a < accounts_of k
     → IsPage k (balance_at k a)
 balance_page k law a lt =
-    record {
-      low = omega arith;
-      below = let few = law.accounts in omega arith;
-      apart = inr (omega arith);
-    }
+    record { low = omega arith; apart = λ x h e. (bare k law.accounts x h).balances a lt e }
 
 -- a job keeps how many balances there are
 after_long : (bs : List ℕ) (j : Job) → length (after_job bs j) ≡ length bs

@@ -1,7 +1,7 @@
 -- What the seats know of the journal stays true, where it stays where it is.
 use Rattle.std.proofs.Common.{◌≡◌, ◌≢◌, ◌⊎◌, ⊎_elim, inl, inr, ℕ, ◌+◌, ◌<◌, ◌≤◌, List, [], ◌∷◌, ◌++◌}
 use Rattle.std.proofs.Common.{length, eqb, get_or, take, set, Option, Some, None, Bool, true, false, refl, sym}
-use Rattle.std.proofs.Common.{ap, ◌∙◌, subst, arith, length-set}
+use Rattle.std.proofs.Common.{ap, ◌∙◌, subst, arith, length-set, get_or-set_other}
 use Rattle.std.proofs.lemmas.Bool.{cases_Bool}
 use Rattle.std.specs.Prelude.{if◌then◌else◌, ◌&&◌, not}
 use mathlib.Core.Logic.{dite}
@@ -34,6 +34,7 @@ use Rattle.lk_domain.specs.declared.view.View.{View}
 use Rattle.lk_domain.proofs.journals.Held.{any_none, free_any, free_sole, sole_le}
 use Rattle.lk_domain.proofs.rows.Kept.{set_at}
 use Rattle.lk_domain.proofs.seats.Totals.{total-same}
+use Rattle.lk_domain.proofs.words.Written.{IsBare}
 
 take_all : {A : Type 0} (xs : List A) → take (length xs) xs ≡ xs
 take_all [] = refl
@@ -286,3 +287,14 @@ alters k s kp id v w ws me share knows roll first balances same outs =
       fresh = λ q h. kp.fresh q (subst (λ (r : ℕ). r ≤ q) roll h);
       values = same_slots k s kp id v w me knows outs;
     }
+
+-- so where one word is written that is none of the ledger's
+pub alters_at : (k : Plan) (s : State Slot View) (kp : Keeps k s) (id : ℕ) (v w : View) (j i : ℕ) → IsBare k j
+    → get_elem? s.views id ≡ some v → w.ledger.share ≡ v.ledger.share → Knows k kp.journal w
+    → w.ledger.out ≡ v.ledger.out → w.who.outs ≡ v.who.outs
+    → Keeps k (record { words = set s.words j i; homes = s.homes; views = set s.views id w })
+alters_at k s kp id v w j i bare me share knows =
+    alters k s kp id v w (set s.words j i) me share knows
+    (get_or-set_other s.words j 0 i 0 (λ e. bare.roll (sym e)))
+    (get_or-set_other s.words j version_at i 0 (λ e. bare.version (sym e)))
+    (λ a lt. get_or-set_other s.words j (balance_at k a) i 0 (λ e. bare.balances a lt (sym e)))

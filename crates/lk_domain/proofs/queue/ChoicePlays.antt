@@ -38,7 +38,9 @@ use Rattle.lk_domain.proofs.rows.Sights.{IsSeen, Sees}
 use Rattle.lk_domain.proofs.words.LockPlays.{MayFree}
 use Rattle.lk_domain.proofs.queue.NodePlays as play
 use Rattle.lk_domain.proofs.queue.Relinks.{remarked, remarked_here, remarked_else, relinked}
-use Rattle.lk_domain.proofs.queue.NodeStores.{OnNode, unseen_by, next_here, tail_here, row_else}
+use Rattle.lk_domain.proofs.queue.NodeStores.{next_here, tail_here}
+use Rattle.lk_domain.proofs.rows.Changes.{IsAt, node_part, row_changes}
+use Rattle.lk_domain.specs.Words.{OfNode}
 use Rattle.lk_domain.proofs.queue.OnNodes.{IsUsed}
 use Rattle.lk_domain.proofs.Acting.{acting_is}
 use Rattle.lk_domain.proofs.Stacks.{frame_in-top}
@@ -50,7 +52,6 @@ use Rattle.lk_law.proofs.common.Puts.{if-true}
 use Rattle.lk_law.proofs.running.Links.{passed_is_used}
 use Rattle.lk_law.specs.Nodes.{will_link, looks_along}
 use Rattle.lk_law.specs.Premises.{Uses}
-use Rattle.lk_rows.specs.declared.parts.Node.{Node}
 
 -- the rows free nothing
 
@@ -91,7 +92,7 @@ module _ (k : Plan) (slots id : ℕ) (m : Me Slot View) (number : IsNumbered m.0
       ∙ (at.acted.sound.spins.registers (waiter number.0 acts.frame.ctx) acts.frame live).choice.choice pc acts.place front
 
   -- a link is cut
-  pub cut_link : (on : OnNode (target pc acts.frame) a part.Next) → (looks_along pc ≡ true → ⊥)
+  pub cut_link : (on : IsAt acts.frame (target pc acts.frame) (OfNode a part.Next)) → (looks_along pc ≡ true → ⊥)
       → ((n : World) (w : Waiter) → ((stored_in n w acts.frame pc (target pc acts.frame)).node a).next ≡ None)
       → Allows (Stand k) slots id m (node_at k a part.Next) (λ _. 0) (Relinks m)
   cut_link on off writes s both long me small =
@@ -110,7 +111,7 @@ module _ (k : Plan) (slots id : ℕ) (m : Me Slot View) (number : IsNumbered m.0
             (λ b c next. elim (node_cases b a) [
               | inl e ↦ absurd (none_some (sym (writes world w)
                   ∙ (ap (λ d. ((stored_in world w acts.frame pc (target pc acts.frame)).node d).next) (sym e) ∙ next)))
-              | inr ne ↦ ap (λ (y : Node). y.next) (sym (row_else world w acts.frame pc (target pc acts.frame) a b part.Next on ne)) ∙ next
+              | inr ne ↦ sym ((row_changes k world w acts.frame pc (target pc acts.frame) (OfNode a part.Next) on).links b (λ e. ne (node_part e).0)) ∙ next
             ]))
             0 (sym (ap (λ (o : Option NodeName). marked (marks a) (link_number o)) (writes world w) ∙ stored_zero (marks a) part.Next))
             (inr (subst (IsUsed world) here used)) (inl (λ e. cc e)) (Linked x (marks a)) refl (λ e. absurd (off e)),
@@ -126,7 +127,7 @@ module _ (k : Plan) (slots id : ℕ) (m : Me Slot View) (number : IsNumbered m.0
       none_some e = cc e
 
   -- a node is linked behind another, with the mark that the call was told with it
-  pub tie_link : (on : OnNode (target pc acts.frame) a part.Next) → (looks_along pc ≡ true → ⊥) → will_link pc acts.frame.why ≡ true
+  pub tie_link : (on : IsAt acts.frame (target pc acts.frame) (OfNode a part.Next)) → (looks_along pc ≡ true → ⊥) → will_link pc acts.frame.why ≡ true
       → (next : NodeName) → acts.frame.a ≡ Some next → (mark : Bool) → told acts.trail ≡ Some (next, mark)
       → (i : ℕ) → i ≡ marked mark (name_number next)
       → ((n : World) (w : Waiter) → ((stored_in n w acts.frame pc (target pc acts.frame)).node a).next ≡ Some next)
@@ -151,7 +152,7 @@ module _ (k : Plan) (slots id : ℕ) (m : Me Slot View) (number : IsNumbered m.0
             (λ halting. let z : true ≡ false = sym halting ∙ aside_awake world.mode ((sound.registers w acts.frame live).choice.choice pc acts.place front) in cc z)
             (play.was_marked k slots id m number v lock pc acts a part.Next near entry calm on frees s both me refl)
             next (writes world w)
-            (λ b ne. ap (λ (y : Node). y.next) (row_else world w acts.frame pc (target pc acts.frame) a b part.Next on ne))
+            (λ b ne. (row_changes k world w acts.frame pc (target pc acts.frame) (OfNode a part.Next) on).links b (λ e. ne (node_part e).0))
             (λ free. free passed.0 (subst (Uses world passed.0) (ap node_of first) passed.1))
             (λ u there.
             play.was_told k slots id m number v lock pc acts a part.Next near entry calm on frees s both me refl
@@ -175,11 +176,11 @@ module _ (k : Plan) (slots id : ℕ) (m : Me Slot View) (number : IsNumbered m.0
       )
 
   -- a store of the last of a second queue
-  pub names : (looks_along pc ≡ true → ⊥) → (on : OnNode (target pc acts.frame) a part.SecondTail) (o : Option NodeName) (i : ℕ) → i ≡ link_number o
+  pub names : (looks_along pc ≡ true → ⊥) → (on : IsAt acts.frame (target pc acts.frame) (OfNode a part.SecondTail)) (o : Option NodeName) (i : ℕ) → i ≡ link_number o
       → ((n : World) (w : Waiter) → ((stored_in n w acts.frame pc (target pc acts.frame)).node a).second_tail ≡ o)
       → Allows (Stand k) slots id m (node_at k a part.SecondTail) (λ _. i) (Names m)
   names off on o i is writes s both long me small =
-      let has = aside s both me (unseen_by both.runs.world (waiter number.0 acts.frame.ctx) acts.frame pc (target pc acts.frame) a part.SecondTail on, play.calm' k slots id m number v lock pc acts a part.SecondTail near entry calm on frees s both me) in
+      let has = aside s both me (tt, play.calm' k slots id m number v lock pc acts a part.SecondTail near entry calm on frees s both me) in
       let world = play.world k slots id m number v lock pc acts a part.SecondTail near entry calm on frees s both me has in
       let w = waiter number.0 acts.frame.ctx in
       let x = (world.node a).second_tail in

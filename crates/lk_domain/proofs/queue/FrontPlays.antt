@@ -45,7 +45,6 @@ use Rattle.lk_domain.specs.declared.plan.Plan.{Plan}
 use Rattle.lk_domain.specs.declared.view.View.{View}
 use Rattle.lk_domain.proofs.rows.Kept as rule
 use Rattle.lk_domain.proofs.rows.Kept.{halting_same}
-use Rattle.lk_domain.proofs.rows.Halts.{seeks_same}
 use Rattle.lk_domain.proofs.rows.Sights.{Sees}
 use Rattle.lk_domain.proofs.words.LockPlays.{MayFree}
 use Rattle.lk_domain.proofs.journals.Purses.{alters, knows_same}
@@ -53,7 +52,9 @@ use Rattle.lk_domain.proofs.queue.ChoicePlays.{aside}
 use Rattle.lk_domain.proofs.queue.LockSwaps.{set_self}
 use Rattle.lk_domain.proofs.queue.NodePlays as play
 use Rattle.lk_domain.proofs.queue.NodePlays.{link_look, hand_on}
-use Rattle.lk_domain.proofs.queue.NodeStores.{OnNode, flag_here, runs_here}
+use Rattle.lk_domain.proofs.queue.NodeStores.{flag_here, runs_here}
+use Rattle.lk_domain.proofs.rows.Changes.{IsAt}
+use Rattle.lk_domain.specs.Words.{OfNode}
 use Rattle.lk_domain.proofs.queue.OnNodes.{IsUsed, top_live}
 use Rattle.lk_domain.proofs.rows.Users.{IsTrue}
 use Rattle.lk_domain.specs.Words.{marked}
@@ -112,7 +113,7 @@ along_front _ h = cc h
 -- a look along the links
 along : (k : Plan) (slots id : ℕ) (m : Me Slot View) → IsNumbered m.0 → (v : Verb) (lock : LockName) (pc : Pc)
     → (acts : StandsOn m.0.calls v lock pc) (a : NodeName) → IsNode k a → pc ≢ G1 → Sees pc m.0.calls.runs
-    → (MayFree pc → ⊥) → looks_along pc ≡ true → OnNode (target pc acts.frame) a part.Next
+    → (MayFree pc → ⊥) → looks_along pc ≡ true → IsAt acts.frame (target pc acts.frame) (OfNode a part.Next)
     → node_of (choice_node pc acts.frame) ≡ a
     → ((n : World) (w : Waiter) → (stored_in n w acts.frame pc (target pc acts.frame)).node ≡ n.node)
     → Allows (Stand k) slots id m (node_at k a part.Next) (λ n. n) (SeesLink m)
@@ -289,7 +290,7 @@ module _ (k : Plan) (slots id : ℕ) (m : Me Slot View) (number : IsNumbered m.0
       (top_live k s st id m.0 me p number.1 fits (running v acts.frame acts.trail) acts.rest acts.is)).choice.choice pc acts.place front
 
   count_is : (st.world.node (node_of acts.frame.me)).runs ≡ n
-  count_is = ap (λ (b : Option NodeName). (st.world.node (node_of b)).runs) own ∙ sym (st.stored.nodes a part.Runs near.cpu near.index is_aside)
+  count_is = ap (λ (b : Option NodeName). (st.world.node (node_of b)).runs) own ∙ sym (st.stored.words (OfNode a part.Runs) near is_aside)
 
   same_words : set s.words j n ≡ s.words
   same_words = set_self s.words j
@@ -303,9 +304,9 @@ module _ (k : Plan) (slots id : ℕ) (m : Me Slot View) (number : IsNumbered m.0
   pub reads : Stand k (record { words = set s.words j n; homes = s.homes; views = set s.views id u })
   reads =
       record {
-        runs = rule.keeps k s st id m.0 me p number.1 st.world st.histories st.marks u (set s.words j n) st.sound st.attended st.of_plan
-            (subst (IsStored k st.world st.marks) (sym same_words) st.stored) (rule.right k s st id m.0 me p number.1) (ap (λ (ws : List ℕ). get_or ws 0 0) same_words)
-            (λ x ne. (refl, λ i. refl)) (λ q ne. refl) (λ q d ne f. refl) (λ q d ne f. f.counted) (λ q d ne f. f.told) refl
+        runs = rule.keeps k s st id m.0 me p number.1 st.world st.histories st.marks st.pairs u (set s.words j n) st.sound st.attended st.of_plan
+            (subst (IsStored k st.world st.marks st.pairs) (sym same_words) st.stored) (rule.right k s st id m.0 me p number.1) (ap (λ (ws : List ℕ). get_or ws 0 0) same_words)
+            (λ x ne. (refl, λ i. refl)) (λ q ne. refl) (λ q d ne f r. refl) (λ q d ne f. f.counted) (λ q d ne f. f.told) refl
             (record {
               mirrors = record { frames = fits.mirrors.frames; holds = fits.mirrors.holds };
               stacked = fits.stacked;
@@ -320,10 +321,7 @@ module _ (k : Plan) (slots id : ℕ) (m : Me Slot View) (number : IsNumbered m.0
               single = fits.single;
               halted = fits.halted;
             })
-            (halting_same k s st.world st.world (set s.words j n) id p (λ i high. ap (λ (ws : List ℕ). get_or ws i 0) same_words)
-            (record { entry = refl; halted = refl; kicked = refl }) (λ b. refl) st.halting)
-            (seeks_same k s.words (set s.words j n) (λ i high. ap (λ (ws : List ℕ). get_or ws i 0) same_words)
-            m.0.calls (st.seeks id m.0 me)) s.homes;
+            (halting_same k s st st.world id p refl (λ q ne. refl)) (st.seeks id m.0 me) s.homes;
         keeps = alters k s both.keeps id m.0 u (set s.words j n) me refl
             (knows_same k both.keeps.journal m.0 u (both.keeps.knows id m.0 me) refl refl refl refl (λ l m is. is))
             (ap (λ (ws : List ℕ). get_or ws 0 0) same_words) (ap (λ (ws : List ℕ). get_or ws version_at 0) same_words)

@@ -1,6 +1,6 @@
 -- What the step calls on the words of nodes ask.
 use Rattle.std.proofs.Common.{◌≡◌, ◌≢◌, inl, inr, ℕ, ◌<◌, ◌≤◌, get_or, set, Option, Some, None}
-use Rattle.std.proofs.Common.{◌⊎◌, true, refl, sym, ap, ◌∙◌, subst, arith, IfSome, get_or-set_other}
+use Rattle.std.proofs.Common.{◌⊎◌, true, refl, sym, ap, ◌∙◌, subst, arith, IfSome}
 use mathlib.Core.Option.{some}
 use lib.ListN.{get_elem?}
 use Rattle.atomic_table.specs.Table.{State, Me, Step, keeps, Allows}
@@ -37,7 +37,7 @@ use Rattle.lk_domain.specs.Plays.{went, turned_of}
 use Rattle.lk_domain.specs.Runs.{waiter, node_name, Runs, AreTold}
 use Rattle.lk_domain.specs.Stand.{Stand}
 use Rattle.lk_domain.specs.Views.{IsNumbered, own_number}
-use Rattle.lk_domain.specs.Words.{word_at, node_at, version_at, balance_at, flag_number, part_index}
+use Rattle.lk_domain.specs.Words.{word_at, node_at, flag_number, part_index}
 use Rattle.lk_domain.specs.Words.{link_number, name_number, node_number, has_part, is_last, IsNode}
 use Rattle.lk_domain.specs.declared.part.Part.{Part}
 use Rattle.lk_domain.specs.declared.part.Part.TheVariants as part
@@ -48,26 +48,27 @@ use Rattle.lk_domain.proofs.rows.Fresh as fresh
 use Rattle.lk_domain.proofs.rows.Lands as lands
 use Rattle.lk_domain.proofs.rows.Sights.{IsSeen, Sees}
 use Rattle.lk_domain.proofs.rows.Poised.{Poised}
-use Rattle.lk_domain.proofs.words.NodeWords.{place_is, stored_plain, stored_zero}
+use Rattle.lk_domain.proofs.words.NodeWords.{part_at, stored_plain, stored_zero}
+use Rattle.lk_domain.proofs.words.Written.{IsBare, bare}
 use Rattle.lk_domain.proofs.words.LockPlays.{MayFree, acting_any, acting_sole}
 use Rattle.lk_domain.proofs.words.OnWords.{seated}
 use Rattle.lk_domain.proofs.Outs.{acting_holds}
-use Rattle.lk_domain.proofs.journals.Purses.{alters, knows_after, knows_same}
+use Rattle.lk_domain.proofs.journals.Purses.{alters_at, knows_after, knows_same}
 use Rattle.lk_domain.proofs.queue.Entries as entry
 use Rattle.lk_domain.proofs.queue.OnNodes as on
-use Rattle.lk_domain.proofs.queue.NodeStores.{OnNode, met_of, met_there, flag_here, next_here}
+use Rattle.lk_domain.proofs.queue.NodeStores.{met_of, met_there, flag_here, next_here}
 use Rattle.lk_domain.proofs.queue.OnNodes.{IsUsed}
 use Rattle.lk_domain.proofs.queue.Unfreed.{G1_frees, G5_frees, G6_frees, G10_frees, G11_frees}
 use Rattle.lk_domain.proofs.rows.Users.{AreRight, KeepsMarks, IsTrue}
 use Rattle.lk_domain.specs.Calls.{plain, is_inner}
-use Rattle.lk_domain.specs.Words.{marked, stored_number}
+use Rattle.lk_domain.specs.Words.{OfLock, OfNode, marked, stored_number}
 use Rattle.lk_law.specs.Agree.{halts}
 use Rattle.std.proofs.Common.{Bool}
-use Rattle.lk_domain.proofs.queue.NodeStores.{next_else, row_nexts}
+use Rattle.lk_domain.proofs.rows.Changes.{IsAt, next_changes, node_part, row_changes}
 use Rattle.lk_law.proofs.common.Puts.{same_node-self}
 use Rattle.lk_law.proofs.common.Users.{node_is_ones}
 use Rattle.lk_law.specs.Nodes.{looks_along}
-use Rattle.lk_domain.proofs.queue.Relinks.{remarked, remarked_here, remarked_else, relinked, IsBare, node_bare, alone, lock_bare}
+use Rattle.lk_domain.proofs.queue.Relinks.{remarked, remarked_here, remarked_else, relinked, alone}
 
 -- the ledger part of a step of the newest call
 module _ (k : Plan) (id : ℕ) (m : Me Slot View) (number : IsNumbered m.0) (v : Verb) (lock : LockName) (pc : Pc)
@@ -123,15 +124,12 @@ module _ (k : Plan) (id : ℕ) (m : Me Slot View) (number : IsNumbered m.0) (v :
     kept y is true_ j n bare =
         let purse : fresh.SamePurse m.0.ledger (went m.0 y).ledger =
         fresh.turned_purse m.0.who.plan (own_number m.0.who.number) m.0.calls y m.0.ledger in
-        alters k s both.keeps id m.0 (went m.0 y) (set s.words j n) me purse.share (knows y is true_)
-        (get_or-set_other s.words j 0 n 0 (λ e. bare.roll (sym e)))
-        (get_or-set_other s.words j version_at n 0 (λ e. bare.version (sym e)))
-        (λ a lt. get_or-set_other s.words j (balance_at k a) n 0 (λ e. bare.balances a lt (sym e))) purse.out refl
+        alters_at k s both.keeps id m.0 (went m.0 y) j n bare me purse.share (knows y is true_) purse.out refl
 
 -- a step of the newest call on a word of a node
 module _ (k : Plan) (slots id : ℕ) (m : Me Slot View) (number : IsNumbered m.0) (v : Verb) (lock : LockName) (pc : Pc)
     (acts : StandsOn m.0.calls v lock pc) (a : NodeName) (q : Part) (near : IsNode k a)
-    (entry : pc ≢ G1) (calm : Sees pc m.0.calls.runs) (target_is : OnNode (target pc acts.frame) a q)
+    (entry : pc ≢ G1) (calm : Sees pc m.0.calls.runs) (target_is : IsAt acts.frame (target pc acts.frame) (OfNode a q))
     (frees : MayFree pc → ⊥) (s : State Slot View) (both : Stand k s)
     (me : get_elem? s.views id ≡ some m.0) where
   abbrev p : ℕ
@@ -230,7 +228,7 @@ module _ (k : Plan) (slots id : ℕ) (m : Me Slot View) (number : IsNumbered m.0
           runs = on.node_step k s st id m.0 me p number.1 v lock pc ask go a q near has entry calm' target_is ms others links i writes
               safe quiet x is true_ (went m.0 x) refl (calls_are k id m number v lock pc acts s both me x) s.homes;
           keeps = kept k id m number v lock pc acts s both me unseen frees x (is ∙ sym meets) true_ (node_at k a q) i
-              (node_bare k st.lawful.accounts a q);
+              (bare k st.lawful.accounts (OfNode a q) near);
         }
 
     -- the same where the word is no link
@@ -239,7 +237,8 @@ module _ (k : Plan) (slots id : ℕ) (m : Me Slot View) (number : IsNumbered m.0
         → Stand k (record { words = set s.words (node_at k a q) i; homes = s.homes; views = set s.views id (went m.0 x) })
     stands apart first i writes safe quiet x is =
         stands_marked marks (λ b ne. refl)
-        (leaves (λ b c h. sym (row_nexts world (waiter p acts.frame.ctx) acts.frame pc (target pc acts.frame) a q target_is apart b) ∙ h))
+        (leaves (λ b c h. sym ((row_changes k world (waiter p acts.frame.ctx) acts.frame pc (target pc acts.frame) (OfNode a q) target_is).links b
+        (λ e. apart (sym (node_part e).1))) ∙ h))
         i (writes ∙ sym (stored_plain (marks a) q (node_number q after) apart)) safe quiet x is (λ e. absurd (first e))
 
 -- a look at the own flag
@@ -347,7 +346,7 @@ link_on k slots id m number v lock acts a own near before mine mark mark_is i na
           (at.single (ap halts (sym at.acted.same.mode) ∙ halting))))
           (was_marked k slots id m number v lock G5 acts a part.Next near e tt tgt G5_frees s both me refl)
           own here
-          (λ b ne. ap (λ (g : NodeName → Node). (g b).next) stored ∙ ap (λ (y : Node). y.next) (next_else world a b (Some acts.frame.me) ne))
+          (λ b ne. ap (λ (g : NodeName → Node). (g b).next) stored ∙ (next_changes k world a a refl (Some acts.frame.me)).links b (λ e. ne (node_part e).0))
           (λ free. free w uses)
           (λ u there. mark_is ∙ ap (λ (z : Waiter). is_inner z.ctx) (node_is_ones world _ w u own sound uses there).0))
           i (named ∙ (ap (λ (b : Bool). marked b (name_number own)) (sym (remarked_here a mark marks))
@@ -407,21 +406,19 @@ pub reset_on : (k : Plan) (slots id : ℕ) (m : Me Slot View) (number : IsNumber
 reset_on k slots id m number q low ready step at s both long me small =
     let a : NodeName = node_name number.0 (slows m.0.calls.frames) in
     let j = node_at k a q in
-    let bare = node_bare k both.runs.lawful.accounts a q in
+    let bare = bare k both.runs.lawful.accounts (OfNode a q)
+    (record { cpu = on.in_plan k s both.runs id m.0 me number.0 number.1; index = low }) in
     let u : View = readied_by q m.0 in (
       u,
       keeps,
       tt,
       record {
         runs = on.resets k s both.runs id m.0 me number.0 number.1 q low ready u refl refl s.homes;
-        keeps = alters k s both.keeps id m.0 u (set s.words j 0) me refl
-            (knows_same k both.keeps.journal m.0 u (both.keeps.knows id m.0 me) refl refl refl refl (λ l m is. is))
-            (get_or-set_other s.words j 0 0 0 (λ e. bare.roll (sym e)))
-            (get_or-set_other s.words j version_at 0 0 (λ e. bare.version (sym e)))
-            (λ a lt. get_or-set_other s.words j (balance_at k a) 0 0 (λ e. bare.balances a lt (sym e))) refl refl;
+        keeps = alters_at k s both.keeps id m.0 u j 0 bare me refl
+            (knows_same k both.keeps.journal m.0 u (both.keeps.knows id m.0 me) refl refl refl refl (λ l m is. is)) refl refl;
       },
       λ own r is. ap (λ (x : Part). (readied_by x m.0, m.1))
-          (place_is m.0.who.plan a own q r (sym at ∙ is)),
+          (part_at m.0.who.plan a own q r (sym at ∙ is)),
     )
 
 -- the last private store: the row that takes the node
@@ -443,7 +440,7 @@ enter_on k slots id m number v lock q last has acts low ready s both long me sma
             (calls_are k id m number v lock G1 acts s both me x) s.homes;
         keeps = kept k id m number v lock G1 acts s both me (tt, tt) G1_frees x
             (ap Number (sym (entry.count_is k s st id m.0 me p number.1 v lock ask go))) (λ e. cc e) (node_at k a q) 0
-            (node_bare k st.lawful.accounts a q);
+            (bare k st.lawful.accounts (OfNode a q) (record { cpu = on.in_plan k s st id m.0 me p number.1; index = low }));
       },
       refl,
     )
@@ -461,10 +458,10 @@ enter_bare_on k slots id m number v lock near acts high s both long me small =
       keeps,
       tt,
       record {
-        runs = entry.enters_bare k s st id m.0 me p number.1 v lock ask go high near (went m.0 x) refl
+        runs = entry.enters_bare k s st id m.0 me p number.1 v lock ask go high (went m.0 x) refl
             (calls_are k id m number v lock G1 acts s both me x) s.homes;
         keeps = kept k id m number v lock G1 acts s both me (tt, tt) G1_frees x
-            (ap Number (sym (entry.count_is k s st id m.0 me p number.1 v lock ask go))) (λ e. cc e) (word_at lock) (get_or s.words (word_at lock) 0) (lock_bare k lock near);
+            (ap Number (sym (entry.count_is k s st id m.0 me p number.1 v lock ask go))) (λ e. cc e) (word_at lock) (get_or s.words (word_at lock) 0) (bare k st.lawful.accounts (OfLock lock) near);
       },
       refl,
     )

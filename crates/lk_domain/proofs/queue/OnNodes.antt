@@ -1,7 +1,7 @@
 -- The steps on a word of a node.
 use Rattle.std.proofs.Common.{◌≡◌, ◌≢◌, ◌⊎◌, inl, inr, ℕ, ◌+◌, ◌<◌, List, set, get_or, Bool}
 use Rattle.std.proofs.Common.{Option, Some, None, true, refl, sym, ap, ◌∙◌, subst, arith, false}
-use Rattle.std.proofs.Common.{◌∷◌, eqb, eq-eqb, get_or-set_other}
+use Rattle.std.proofs.Common.{◌∷◌, eqb, eq-eqb}
 use Rattle.std.specs.Prelude.{is_some, ◌≤◌}
 use mathlib.Core.Option.{Option as Maybe, some}
 use lib.ListN.{get_elem?}
@@ -36,7 +36,8 @@ use Rattle.lk_law.proofs.running.Nodes.{free_node_keeps, fresh_is_free}
 use Rattle.lk_domain.specs.Calls.{terms_of, Running, frame_in, Calls, StandsOn, row_of, acting, Begins, slows}
 use Rattle.lk_domain.specs.Plans.{cpus_of}
 use Rattle.lk_domain.specs.Runs.{waiter, node_name, SeatFits, Runs, IsCounted, Seeks}
-use Rattle.lk_domain.specs.Words.{node_at, node_number, stored_number, part_index, has_part, IsNode}
+use Rattle.lk_domain.specs.Words.{Place, OfNode, node_at, node_number, number_of, stored_number, with_mark}
+use Rattle.lk_domain.specs.Words.{part_index, has_part, IsNode}
 use Rattle.lk_domain.specs.declared.part.Part.{Part}
 use Rattle.lk_domain.specs.declared.part.Part.TheVariants as part
 use Rattle.lk_domain.specs.declared.plan.Plan.{Plan}
@@ -45,17 +46,18 @@ use Rattle.lk_domain.proofs.rows.Begun.{Elsewhere}
 use Rattle.lk_domain.proofs.rows.Grips.{own_row}
 use Rattle.lk_domain.proofs.rows.Kept as rule
 use Rattle.lk_domain.proofs.rows.Lands as lands
-use Rattle.lk_domain.proofs.rows.Kept.{keeps, halting_same}
-use Rattle.lk_domain.proofs.rows.Halts.{SameMarks, marks_trans, acted_marks, stored_marks, far_set, seeks_same}
+use Rattle.lk_domain.proofs.rows.Changes.{IsAt, node_part, node_here, node_else, reset_changes}
+use Rattle.lk_domain.proofs.rows.Kept.{KeepsComing, keeps, halting_same}
+use Rattle.lk_domain.proofs.rows.Writes.{row_else, beside}
 use Rattle.lk_domain.proofs.rows.Sights.{IsSeen, Sees}
 use Rattle.lk_domain.proofs.rows.Poised.{Poised}
-use Rattle.lk_domain.proofs.words.Locks.{SameLocks, locks_trans, acted_locks}
 use Rattle.lk_domain.proofs.words.NodeWords.{part_is, part_cases, reset_part, reset_number}
-use Rattle.lk_domain.proofs.words.NodeWords.{reset_others, stored_zero, low}
+use Rattle.lk_domain.proofs.words.NodeWords.{reset_others, stored_plain, stored_zero}
+use Rattle.lk_domain.proofs.words.Written.{written, roll_stays}
 use Rattle.lk_domain.proofs.Stacks.{frame_in-above}
 use Rattle.lk_domain.proofs.seats.Totals.{drawn}
 use Rattle.lk_domain.proofs.queue.Counts.{queued_is}
-use Rattle.lk_domain.proofs.queue.NodeStores.{node_stored, node_here, node_else, OnNode, met_of, unseen_by, own_by, met_there, row_else, row_others, row_locks, unmarked_by, row_state}
+use Rattle.lk_domain.proofs.queue.NodeStores.{met_of, own_by, met_there}
 use Rattle.lk_domain.proofs.rows.Users.{KeepsMarks, IsTrue, bare_me, kept_marks}
 use Rattle.lk_rows.specs.rows.Pv.{is_set}
 use Rattle.lk_waits.proofs.Attended.{attended_stays}
@@ -139,7 +141,7 @@ module _ (k : Plan) {S : Type 0} (s : State S View) (st : Runs k s) (id : ℕ) (
   module _ (verb : Verb) (l : LockName) (pc : Pc) (asks : Begins k v.calls verb l.index)
       (acts : StandsOn (acting k.mode v.calls verb l.index) verb l pc) (a : NodeName) (q : Part)
       (near : IsNode k a) (has : has_part k.mode q ≡ true) (entry : pc ≢ G1)
-      (calm : Sees pc (acting k.mode v.calls verb l.index).runs) (on : OnNode (target pc acts.frame) a q) where
+      (calm : Sees pc (acting k.mode v.calls verb l.index).runs) (on : IsAt acts.frame (target pc acts.frame) (OfNode a q)) where
     abbrev f : Frame
     f = acts.frame
 
@@ -147,7 +149,7 @@ module _ (k : Plan) {S : Type 0} (s : State S View) (st : Runs k s) (id : ℕ) (
     w = waiter p f.ctx
 
     abbrev pub unseen : IsSeen pc (target pc acts.frame) (acting k.mode v.calls verb l.index).runs
-    unseen = (unseen_by st.world (waiter p acts.frame.ctx) acts.frame pc (target pc acts.frame) a q on, calm)
+    unseen = (tt, calm)
 
     abbrev at : Poised st.world p (acting k.mode v.calls verb l.index)
     at = lands.at k s st id v me p is verb l pc asks acts unseen
@@ -164,7 +166,7 @@ module _ (k : Plan) {S : Type 0} (s : State S View) (st : Runs k s) (id : ℕ) (
 
     pub word_is : get_or s.words (node_at k a q) 0 ≡ stored_number (st.marks a) q (node_number q before)
     word_is =
-        st.stored.nodes a q near.cpu near.index has
+        st.stored.words (OfNode a q) near has
         ∙ ap (λ (g : NodeName → Node). stored_number (st.marks a) q (node_number q (g a))) (sym at.acted.same.node)
 
     -- the row gives no node
@@ -177,45 +179,31 @@ module _ (k : Plan) {S : Type 0} (s : State S View) (st : Runs k s) (id : ℕ) (
     nodes_are : (lands.n k s st id v me p is verb l pc asks acts unseen).node ≡ (stored_in m w f pc (target pc f)).node
     nodes_are = (lands.row_done k s st id v me p is verb l pc asks acts unseen).node row_bare
 
-    locks_are : SameLocks m (lands.n k s st id v me p is verb l pc asks acts unseen)
-    locks_are =
-        let done = lands.row_done k s st id v me p is verb l pc asks acts unseen in
-        let stored = row_locks m w f pc (target pc f) a q on in
-        record { word = done.word ∙ stored.word; rw = done.rw ∙ stored.rw; kind = done.kind }
+    abbrev n : World
+    n = lands.n k s st id v me p is verb l pc asks acts unseen
 
-    marks_are : SameMarks m (lands.n k s st id v me p is verb l pc asks acts unseen)
-    marks_are =
-        let done = lands.row_done k s st id v me p is verb l pc asks acts unseen in
-        let z = stored_marks m w f pc (target pc f) (unmarked_by m w f pc (target pc f) a q on) in
-        record { entry = done.entry ∙ z.entry; halted = done.halted ∙ z.halted; kicked = done.kicked ∙ z.kicked }
+    -- the words of nodes are as before, but for that of the row
+    other_words : (b : NodeName) (r : Part) → OfNode b r ≢ OfNode a q
+        → node_number r (n.node b) ≡ node_number r (st.world.node b)
+    other_words b r ne = row_else k s st id v me p is verb l pc asks acts unseen (OfNode a q) on row_bare (OfNode b r) ne
 
     -- the step stores nothing, or into a node that is used
     abbrev pub IsSafe : Type 0
     IsSafe = ((stored_in m w f pc (target pc f)).node ≡ m.node) ⊎ IsUsed m a
 
-    coming : IsSafe → (r : ℕ) (d : Calls) → r ≢ p → SeatFits st.world r d
-        → to_come (stored_in m w f pc (target pc f)).node st.world r ≡ to_come m.node st.world r
-    coming (inl e) r d ne fit = ap (λ (g : NodeName → Node). to_come g st.world r) e
-    coming (inr t) r d ne fit =
-        row_else m w f pc (target pc f) a (node_name r (st.world.queued r)) q on (apart m at.acted.others a t r d ne fit)
-
-    stays : (b : NodeName) (r : Part) → (b ≡ a → r ≢ q)
-        → node_number r ((stored_in m w f pc (target pc f)).node b) ≡ node_number r (m.node b)
-    stays b r ne =
-        elim (node_cases b a) [
-          | inl e ↦ subst (λ (z : NodeName). node_number r ((stored_in m w f pc (target pc f)).node z) ≡ node_number r (m.node z))
-              (sym e) (row_others m w f pc (target pc f) a q r on (ne e))
-          | inr off ↦ ap (node_number r) (row_else m w f pc (target pc f) a b q on off)
-        ]
+    coming : IsSafe → KeepsComing st.world n p
+    coming (inl e) r d ne fit x =
+        ap (λ (g : NodeName → Node). node_number x (to_come g st.world r)) (nodes_are ∙ (e ∙ at.acted.same.node))
+    coming (inr t) r d ne fit x =
+        other_words (node_name r (st.world.queued r)) x (λ e. apart m at.acted.others a t r d ne fit (node_part e).0)
 
     -- and it leaves the counts, or none that chooses the next uses the node
     abbrev pub IsQuiet : Type 0
     IsQuiet = (q ≢ part.Runs) ⊎ ((u : Waiter) → Uses m u a → Chooses m u → ⊥)
 
-    runs_stay : IsQuiet → (b : NodeName) (u : Waiter) → Uses m u b → Chooses m u
-        → ((stored_in m w f pc (target pc f)).node b).runs ≡ (m.node b).runs
-    runs_stay (inl ne) b u uses on = stays b part.Runs (λ _ e. ne (sym e))
-    runs_stay (inr off) b u uses on = stays b part.Runs (λ e _. off u (subst (Uses m u) e uses) on)
+    runs_stay : IsQuiet → (b : NodeName) (u : Waiter) → Uses m u b → Chooses m u → (n.node b).runs ≡ (st.world.node b).runs
+    runs_stay (inl ne) b u uses on = other_words b part.Runs (λ e. ne (sym (node_part e).1))
+    runs_stay (inr off) b u uses on = other_words b part.Runs (λ e. off u (subst (Uses m u) (node_part e).0 uses) on)
 
     -- another processor's waiter is as it was when the call began
     uses_here : (u : Waiter) (b : NodeName) → u.cpu ≢ p → Uses st.world u b → Uses m u b
@@ -232,6 +220,19 @@ module _ (k : Plan) {S : Type 0} (s : State S View) (st : Runs k s) (id : ℕ) (
         kept_marks m (stored_in m w f pc (target pc f)) _ st.marks at.acted.sound.spins
         (lands.marked_here k s st id v me p is verb l pc asks acts unseen)
 
+    -- the words and the marks of the other places are as before
+    other_numbers : (marks : NodeName → Bool) → ((b : NodeName) → (b ≡ a → q ≢ part.Next) → marks b ≡ st.marks b)
+        → (z : Place) → z ≢ OfNode a q
+        → with_mark marks z (number_of k n st.pairs z) ≡ with_mark st.marks z (number_of k st.world st.pairs z)
+    other_numbers marks kept (OfNode b r) ne = elim (part_cases r part.Next) [
+      | inl e ↦
+          let same : marks b ≡ st.marks b = kept b (λ c d. ne (λ i. OfNode (c i) ((e ∙ sym d) i))) in
+          (λ i. stored_number (same i) r (other_words b r ne i))
+      | inr off ↦ stored_plain (marks b) r (node_number r (n.node b)) off
+          ∙ (other_words b r ne ∙ sym (stored_plain (st.marks b) r (node_number r (st.world.node b)) off))
+    ]
+    other_numbers marks kept z ne = row_else k s st id v me p is verb l pc asks acts unseen (OfNode a q) on row_bare z ne
+
     -- A step on a word of a node that makes the row of the call, where it writes what the row stores; of a
     -- link, with a mark that says what it is to say.
     pub node_step : (marks : NodeName → Bool) → ((b : NodeName) → (b ≡ a → q ≢ part.Next) → marks b ≡ st.marks b)
@@ -241,8 +242,6 @@ module _ (k : Plan) {S : Type 0} (s : State S View) (st : Runs k s) (id : ℕ) (
         → u.calls ≡ row_of (terms_of k) p (acting k.mode v.calls verb l.index) y → (homes : List (Maybe S))
         → Runs k {S = S} (record { words = set s.words (node_at k a q) i; homes = homes; views = set s.views id u })
     node_step marks kept links i writes safe quiet y meets true_ u who calls homes =
-        let n : World = lands.n k s st id v me p is verb l pc asks acts unseen in
-        let same = at.acted.same in
         lands.lands k s st id v me p is verb l pc asks acts unseen y (meets ∙ sym (met_there m w f pc (target pc f) a q on)) true_
         (λ b mine. inl (bare_me f (lands.o k s st id v me p is verb l pc asks acts unseen).leads b row_bare mine))
         marks
@@ -251,27 +250,17 @@ module _ (k : Plan) {S : Type 0} (s : State S View) (st : Runs k s) (id : ℕ) (
           says = λ awake b c e j uses next there. links.says awake b c e j uses (ap (λ (g : NodeName → Node). (g b).next) (sym nodes_are) ∙ next) there;
           bare = links.bare;
         })
-        u who calls
+        st.pairs u who calls
         (set s.words (node_at k a q) i)
-        (node_stored k st.world n st.marks marks s.words st.stored a q i near
+        (written k st.stored n marks st.pairs (OfNode a q) near i
         (writes ∙ ap (λ (g : NodeName → Node). stored_number (marks a) q (node_number q (g a))) (sym nodes_are))
-        (λ b r h ne. ap (λ (g : NodeName → Node). node_number r (g b)) nodes_are
-        ∙ (stays b r ne ∙ ap (λ (g : NodeName → Node). node_number r (g b)) same.node))
-        kept
-        (locks_trans (acted_locks same) locks_are))
-        (get_or-set_other s.words (node_at k a q) 0 i 0 (λ e. omega arith))
-        (λ r d ne fit. ap (λ (g : NodeName → Node). to_come g st.world r) nodes_are
-        ∙ (coming safe r d ne fit ∙ ap (λ (g : NodeName → Node). to_come g st.world r) same.node))
+        (λ z there read ne. other_numbers marks kept z ne))
+        (roll_stays k s.words (OfNode a q) i near)
+        (coming safe)
         (λ r d ne fit. counts_beside n fit (λ b u cpu uses on.
         let away : u.cpu ≢ p = λ e. ne (sym cpu ∙ e) in
-        ap (λ (g : NodeName → Node). (g b).runs) nodes_are
-        ∙ (runs_stay quiet b u (uses_here u b away uses) (chooses_here u away on)
-        ∙ ap (λ (g : NodeName → Node). (g b).runs) same.node)))
-        (halting_same k s st.world n (set s.words (node_at k a q) i) id p
-        (far_set k s.words (node_at k a q) i (let c = near.cpu in let e = near.index in let z = low q in omega arith))
-        (marks_trans (acted_marks same) marks_are)
-        (λ b. ap (λ (g : NodeName → Node). (g b).state) nodes_are
-        ∙ (row_state m w f pc (target pc f) a q on b ∙ ap (λ (g : NodeName → Node). (g b).state) same.node)) st.halting)
+        runs_stay quiet b u (uses_here u b away uses) (chooses_here u away on)))
+        (beside k s st id v me p is verb l pc asks acts unseen (OfNode a q) on row_bare)
         homes
 
   pub index_is : st.world.queued p ≡ slows v.calls.frames
@@ -296,8 +285,10 @@ module _ (k : Plan) {S : Type 0} (s : State S View) (st : Runs k s) (id : ℕ) (
       (subst (IsFree st.world) is_a (to_come_free p v.calls fits))
       (counts q (st.world.node a) st.world.threshold (st.sound.spins.plain.runs a), λ off b. plain q (st.world.node a) b (st.sound.spins.plain.flag off a b)) in
       let here : n.node a ≡ y = node_here st.world a y in
+      let changed = reset_changes k st.world a q in
+      let near : IsNode k a = record { cpu = in_plan; index = few } in
       let away : (b : NodeName) → b ≢ a → n.node b ≡ st.world.node b = λ b ne. node_else st.world a b y ne in
-      keeps k s st id v me p is n st.histories st.marks u (set s.words (node_at k a q) 0) sound
+      keeps k s st id v me p is n st.histories st.marks st.pairs u (set s.words (node_at k a q) 0) sound
       (attended_stays st.world n (waiter p 0) (record { words = λ j. refl; others = λ x ne. refl; either = inl refl }) refl
       (λ b h. elim (node_cases b a) [
         | inl e ↦
@@ -315,14 +306,9 @@ module _ (k : Plan) {S : Type 0} (s : State S View) (st : Runs k s) (id : ℕ) (
         sockets = st.of_plan.sockets;
         kind = st.of_plan.kind;
       })
-      (node_stored k st.world n st.marks st.marks s.words st.stored a q 0 (record { cpu = in_plan; index = few })
+      (written k st.stored n st.marks st.pairs (OfNode a q) near 0
       (sym (ap (stored_number (st.marks a) q) (ap (node_number q) here ∙ reset_number q (st.world.node a)) ∙ stored_zero (st.marks a) q))
-      (λ b r h ne. elim (node_cases b a) [
-        | inl e ↦ ap (λ (z : NodeName). node_number r (n.node z)) e
-            ∙ (ap (node_number r) here ∙ (reset_others q r (st.world.node a) (ne e)
-            ∙ ap (λ (z : NodeName). node_number r (st.world.node z)) (sym e)))
-        | inr off ↦ ap (node_number r) (away b off)
-      ]) (λ b ne. refl) (record { word = refl; rw = refl; kind = refl }))
+      (λ z there read ne. ap (with_mark st.marks z) (changed.numbers st.pairs z ne)))
       (record {
         says = λ awake b c e j uses next there. elim (node_cases b a) [
           | inl same ↦ absurd (to_come_free p v.calls fits e (subst (Uses st.world e) (same ∙ sym is_a) uses))
@@ -330,9 +316,9 @@ module _ (k : Plan) {S : Type 0} (s : State S View) (st : Runs k s) (id : ℕ) (
         ];
         bare = (rule.right k s st id v me p is).bare;
       })
-      (get_or-set_other s.words (node_at k a q) 0 0 0 (λ e. omega arith))
+      (roll_stays k s.words (OfNode a q) 0 near)
       (λ x ne. (refl, λ j. refl)) (λ q ne. refl)
-      (λ r d ne fit. away (node_name r (st.world.queued r)) (λ e. ne (ap (λ (z : NodeName). z.cpu) e)))
+      (λ r d ne fit x. ap (node_number x) (away (node_name r (st.world.queued r)) (λ e. ne (ap (λ (z : NodeName). z.cpu) e))))
       (λ r d ne fit. counts_beside n fit (λ b u cpu uses on. ap (λ (z : Node). z.runs) (away b (λ e.
       to_come_free p v.calls fits u (subst (Uses st.world u) (e ∙ sym is_a) uses)))))
       (λ r d ne fit. fit.told)
@@ -355,18 +341,8 @@ module _ (k : Plan) {S : Type 0} (s : State S View) (st : Runs k s) (id : ℕ) (
         single = fits.single;
         halted = fits.halted;
       }))
-      (halting_same k s st.world n (set s.words (node_at k a q) 0) id p
-      (far_set k s.words (node_at k a q) 0 (let c = in_plan in let z = low q in omega (arith, c, z, few)))
-      (record { entry = refl; halted = refl; kicked = refl })
-      (λ b. elim (node_cases b a) [
-        | inl e ↦ ap (λ (z : NodeName). (n.node z).state) e ∙ (ap (λ (z : Node). z.state) here
-            ∙ (reset_state q (st.world.node a) ∙ ap (λ (z : NodeName). (st.world.node z).state) (sym e)))
-        | inr off ↦ ap (λ (z : Node). z.state) (away b off)
-      ]) st.halting)
-      (subst (Seeks k (set s.words (node_at k a q) 0)) (sym calls)
-      (seeks_same k s.words (set s.words (node_at k a q) 0)
-      (far_set k s.words (node_at k a q) 0 (let c = in_plan in let z = low q in omega (arith, c, z, few)))
-      (record v.calls { ready = part_index q + 1; runs = None }) (st.seeks id v me))) homes
+      (halting_same k s st n id p refl (λ q ne. refl))
+      (subst (Seeks k st.pairs) (sym calls) (st.seeks id v me)) homes
     where
       none_some : {j : ℕ} → None ≡ Some j → ⊥
       none_some e = cc e
@@ -376,12 +352,6 @@ module _ (k : Plan) {S : Type 0} (s : State S View) (st : Runs k s) (id : ℕ) (
       reset_flag part.Next x h = h
       reset_flag part.SecondTail x h = h
       reset_flag part.Runs x h = h
-
-      reset_state : (q : Part) (x : Node) → (reset_part q x).state ≡ x.state
-      reset_state part.Flag x = refl
-      reset_state part.Next x = refl
-      reset_state part.SecondTail x = refl
-      reset_state part.Runs x = refl
 
       plain : (q : Part) (x : Node) (b : NodeName) → x.flag ≢ Second b → (reset_part q x).flag ≢ Second b
       plain part.Flag x b ne e = cc e

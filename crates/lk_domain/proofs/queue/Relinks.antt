@@ -1,5 +1,5 @@
--- The marks of links where one is stored, and words that are none of the ledger.
-use Rattle.std.proofs.Common.{◌≡◌, ◌≢◌, inl, inr, ℕ, ◌<◌, ◌≤◌, Some}
+-- The marks of links where one is stored.
+use Rattle.std.proofs.Common.{◌≡◌, ◌≢◌, inl, inr, ◌≤◌, Some}
 use Rattle.std.proofs.Common.{true, sym, ap, ◌∙◌, subst, arith}
 use Rattle.lk_names.specs.declared.names.LockName.{LockName}
 use Rattle.lk_names.specs.declared.names.Waiter.{Waiter}
@@ -7,11 +7,6 @@ use Rattle.lk_word.specs.declared.spin_word.NodeName.{NodeName}
 use Rattle.lk_law.specs.Premises.{Uses}
 use Rattle.lk_law.specs.SpinWorld.{IsSoundSpinWorld}
 use Rattle.lk_law.specs.World.{World}
-use Rattle.lk_domain.specs.Plans.{locks_of, accounts_of}
-use Rattle.lk_domain.specs.Words.{word_at, node_at, version_at, balance_at}
-use Rattle.lk_domain.specs.declared.part.Part.{Part}
-use Rattle.lk_domain.specs.declared.plan.Plan.{Plan}
-use Rattle.lk_domain.proofs.words.Locks.{word_from, word_below}
 use Rattle.lk_names.specs.History.{LockHistory}
 use Rattle.lk_domain.proofs.rows.Users.{AreRight, KeepsMarks}
 use Rattle.lk_domain.specs.Calls.{is_inner}
@@ -68,18 +63,3 @@ pub alone : (xs : List Running) (x : Running) (rs : List Running) → xs ≡ x �
 alone xs x rs e stacked few =
     let count : length xs ≡ suc (length rs) = ap (λ (ys : List Running). length ys) e in
     let top = (subst Stacked e stacked).0 in omega (arith, count, top, few)
-
--- the word is none of the ledger's
-pub record IsBare (k : Plan) (j : ℕ) : Type 0 where
-  pub roll : j ≢ 0
-  pub version : j ≢ version_at
-  pub balances : (a : ℕ) → a < accounts_of k → j ≢ balance_at k a
-
-pub node_bare : (k : Plan) → accounts_of k ≤ 64 → (a : NodeName) (q : Part) → IsBare k (node_at k a q)
-node_bare k few a q =
-    record { roll = λ e. omega arith; version = λ e. omega arith; balances = λ b lt e. omega arith }
-
-pub lock_bare : (k : Plan) (l : LockName) → l.index < locks_of k → IsBare k (word_at l)
-lock_bare k l near =
-    let from = word_from l in let below = word_below k l near in
-    record { roll = λ e. omega arith; version = λ e. omega arith; balances = λ b lt e. omega arith }

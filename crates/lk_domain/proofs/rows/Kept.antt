@@ -15,7 +15,6 @@ use Rattle.lk_names.specs.declared.names.Mode.{Mode}
 use Rattle.lk_names.specs.declared.names.Waiter.{Waiter}
 use Rattle.lk_names.specs.declared.names.LockName.{LockName}
 use Rattle.lk_word.specs.declared.spin_word.NodeName.{NodeName}
-use Rattle.lk_rows.specs.declared.parts.Node.{Node}
 use Rattle.lk_rows.specs.declared.parts.Frame.{Frame}
 use Rattle.lk_rows.specs.declared.parts.Pc.{Pc}
 use Rattle.lk_rows.specs.declared.setup.Verb.{Verb}
@@ -30,10 +29,11 @@ use Rattle.lk_domain.specs.Calls.{frames_after}
 use Rattle.lk_domain.specs.Calls.{acting, begin, is_on}
 use Rattle.lk_domain.specs.Plans.{cpus_of}
 use Rattle.lk_domain.specs.Runs.{waiter, node_name, Mirrors, SeatFits, IsReset, IsStored, IsOfPlan}
-use Rattle.lk_domain.specs.Runs.{IsIdle, IsCounted, AreTold, Runs, IsHalting, Seeks, Sought}
-use Rattle.lk_domain.proofs.rows.Halts.{SameMarks, IsFarSame, far_same, seeks_same}
+use Rattle.lk_domain.specs.Runs.{IsIdle, IsCounted, AreTold, Runs, IsHashed, Seeks, Sought}
 use Rattle.lk_domain.specs.Views.{numbers}
 use Rattle.lk_domain.specs.Who.{Who}
+use Rattle.lk_domain.specs.Words.{node_number}
+use Rattle.lk_domain.specs.declared.part.Part.{Part}
 use Rattle.lk_domain.specs.declared.plan.Plan.{Plan}
 use Rattle.lk_domain.specs.declared.view.View.{View}
 use Rattle.lk_domain.proofs.rows.Begun.{Elsewhere}
@@ -51,15 +51,15 @@ acting_same mode c v l r e = by (is_on c.frames v l) e
     by true h = refl
     by false h = cc h
 
--- a count is there where the nodes are the same
-pub counted_after : (m n : World) (c : Calls) → m.node ≡ n.node → IsCounted m c → IsCounted n c
+-- a count is there where all counts are the same
+pub counted_after : (m n : World) (c : Calls) → ((b : NodeName) → (n.node b).runs ≡ (m.node b).runs) → IsCounted m c → IsCounted n c
 counted_after m n c same counted j x rs runs frames =
     let h = counted j x rs runs frames in
     record {
       row = h.row;
       place = h.place;
       front = h.front;
-      is = ap (λ (g : NodeName → Node). (g (node_of x.frame.me)).runs) (sym same) ∙ h.is;
+      is = same (node_of x.frame.me) ∙ h.is;
     }
 
 pub set_at : {A : Type 0} (l : List A) (i : ℕ) (a b : A) → get_elem? l i ≡ some a
@@ -69,8 +69,8 @@ set_at (x ∷ xs) zero a b e = refl
 set_at (x ∷ xs) (suc i) a b e = set_at xs i a b e
 
 -- a call that has looked at no place of the hash has passed nothing by
-pub unlooked : (k : Plan) (ws : List ℕ) (l : ℕ) → Sought k ws l 0 None
-unlooked k ws l =
+pub unlooked : (k : Plan) (pairs : ℕ → ℕ) (l : ℕ) → Sought k pairs l 0 None
+unlooked k pairs l =
     record { passed = λ i a lt. absurd (omega (arith, lt)); inside = omega arith; found = λ a e. absurd (none_some e) }
   where
     none_some : {a : NodeName} → None ≡ Some a → ⊥
@@ -129,27 +129,26 @@ idle_above n p c fit w high e =
       λ l. fit.mirrors.holds w.ctx l ∙ held_above n.kind c.holds w.ctx l fit.held high,
     )
 
--- the nodes to come of the other processors are as before
+-- the words of the nodes to come of the other processors are as before
 abbrev pub KeepsComing : World → World → ℕ → Type 0
-KeepsComing m n p = (q : ℕ) (d : Calls) → q ≢ p → SeatFits m q d
-    → n.node (node_name q (m.queued q)) ≡ m.node (node_name q (m.queued q))
+KeepsComing m n p = (q : ℕ) (d : Calls) → q ≢ p → SeatFits m q d → (r : Part)
+    → node_number r (n.node (node_name q (m.queued q))) ≡ node_number r (m.node (node_name q (m.queued q)))
 
--- What is there of halts, kicks and the hash after a step of the processor p: the words are the
--- world's, the other processors have halted as before, and who seeks an entry has not passed it by.
-pub record Halting (k : Plan) {S : Type 0} (s : State S View) (m n : World) (ws : List ℕ) (id p : ℕ) : Type 0 where
-  pub words : halts k.mode ≡ true → IsHalting k n ws
-  pub halted : (q : ℕ) → q ≢ p → n.halted q ≡ m.halted q
-  pub seeks : (j : ℕ) (x : View) → get_elem? s.views j ≡ some x → Seeks k s.words x.calls → j ≢ id → Seeks k ws x.calls
+-- What is there of halts and the hash after a step of the processor p: the hash is the map of the world's
+-- entries, the other processors have halted as before, and who seeks an entry has not passed it by.
+pub record Halting (k : Plan) {S : Type 0} (s : State S View) (st : Runs k s) (n : World) (pairs : ℕ → ℕ) (id p : ℕ) : Type 0 where
+  pub hashed : halts k.mode ≡ true → IsHashed k n.entry pairs
+  pub halted : (q : ℕ) → q ≢ p → n.halted q ≡ st.world.halted q
+  pub seeks : (j : ℕ) (x : View) → get_elem? s.views j ≡ some x → j ≢ id → Seeks k pairs x.calls
 
--- so it is where a word below those of halts was written
-pub halting_same : (k : Plan) {S : Type 0} (s : State S View) (m n : World) (ws : List ℕ) (id p : ℕ)
-    → IsFarSame k s.words ws → SameMarks m n → ((a : NodeName) → (n.node a).state ≡ (m.node a).state)
-    → (halts k.mode ≡ true → IsHalting k m s.words) → Halting k s m n ws id p
-halting_same k s m n ws id p far same state h =
+-- so it is where the hash stays
+pub halting_same : (k : Plan) {S : Type 0} (s : State S View) (st : Runs k s) (n : World) (id p : ℕ) → n.entry ≡ st.world.entry
+    → ((q : ℕ) → q ≢ p → n.halted q ≡ st.world.halted q) → Halting k s st n st.pairs id p
+halting_same k s st n id p entry halted =
     record {
-      words = λ on. far_same k m n s.words ws far same state (h on);
-      halted = λ q ne. ap (λ (g : ℕ → Bool). g q) same.halted;
-      seeks = λ j x at seeks ne. seeks_same k s.words ws far x.calls seeks;
+      hashed = λ on. subst (λ (e : LockName → Option NodeName). IsHashed k e st.pairs) (sym entry) (st.hashed on);
+      halted = halted;
+      seeks = λ j x at ne. st.seeks j x at;
     }
 
 -- and so are the counts that they have read
@@ -181,15 +180,15 @@ module _ (k : Plan) {S : Type 0} (s : State S View) (st : Runs k s) (id : ℕ) (
 
   -- The step of a seat that leaves who it is, but for the values that it has out, and the other
   -- processors' frames and holds and the nodes to come, as they are, keeps the rule.
-  pub keeps_as : (n : World) (hs : LockName → LockHistory) (marks : NodeName → Bool) (u : View) (ws : List ℕ)
-      → IsSoundWorld n hs → IsAttended n → IsOfPlan k n → IsStored k n marks ws → AreRight n marks → get_or ws 0 0 ≡ roll_of
+  pub keeps_as : (n : World) (hs : LockName → LockHistory) (marks : NodeName → Bool) (pairs : ℕ → ℕ) (u : View) (ws : List ℕ)
+      → IsSoundWorld n hs → IsAttended n → IsOfPlan k n → IsStored k n marks pairs ws → AreRight n marks → get_or ws 0 0 ≡ roll_of
       → Elsewhere st.world n p → ((q : ℕ) → q ≢ p → n.queued q ≡ st.world.queued q)
       → KeepsComing st.world n p → KeepsCounts st.world n p → KeepsTold st.world n p → SameWho v.who u.who
       → SeatFits n p u.calls
-      → Halting k s st.world n ws id p → Seeks k ws u.calls
+      → Halting k s st n pairs id p → Seeks k pairs u.calls
       → (homes : List (Maybe S))
       → Runs k {S = S} (record { words = ws; homes = homes; views = set s.views id u })
-  keeps_as n hs marks u ws sound attended of_plan stored marked roll others queued coming counts tolds who fit beside sought homes =
+  keeps_as n hs marks pairs u ws sound attended of_plan stored marked roll others queued coming counts tolds who fit beside sought homes =
       let views = set s.views id u in
       let number : u.who.number ≡ Some p = who.number ∙ is in
       record {
@@ -200,11 +199,12 @@ module _ (k : Plan) {S : Type 0} (s : State S View) (st : Runs k s) (id : ℕ) (
         attended = attended;
         of_plan = of_plan;
         marks = marks;
+        pairs = pairs;
         stored = stored;
         marked = marks_right n _ marks sound.spins marked;
-        halting = beside.words;
-        seeks = λ j x at. ⊎_elim (λ a. subst (λ (y : View). Seeks k ws y.calls) a.1 sought)
-            (λ a. beside.seeks j x a.1 (st.seeks j x a.1) a.0) (at_set s.views id j u x at);
+        hashed = beside.hashed;
+        seeks = λ j x at. ⊎_elim (λ a. subst (λ (y : View). Seeks k pairs y.calls) a.1 sought)
+            (λ a. beside.seeks j x a.1 a.0) (at_set s.views id j u x at);
         seats = λ j x q at is'. ⊎_elim
             (λ t. let same : p ≡ q = number_is (sym number ∙ (ap (λ (y : View). y.who.number) t.1 ∙ is')) in
             subst (λ (y : View). SeatFits n q y.calls) t.1
@@ -221,7 +221,7 @@ module _ (k : Plan) {S : Type 0} (s : State S View) (st : Runs k s) (id : ℕ) (
               held = subst (λ (kind : ℕ → Kind). AreHeld kind x.calls.holds) (sym (of_plan.kind ∙ sym st.of_plan.kind)) old.held;
               fresh = old.fresh;
               reset = subst (λ (i : ℕ). IsReset x.calls.ready (n.node (node_name q i))) (sym (queued q ne))
-                  (subst (IsReset x.calls.ready) (sym (coming q x.calls ne old)) old.reset);
+                  (λ r lt. coming q x.calls ne old r ∙ old.reset r lt);
               counted = counts q x.calls ne old;
               told = tolds q x.calls ne old;
               single = λ on. old.single (ap halts (st.of_plan.mode ∙ sym of_plan.mode) ∙ on);
@@ -263,16 +263,16 @@ module _ (k : Plan) {S : Type 0} (s : State S View) (st : Runs k s) (id : ℕ) (
       some_none e = cc
 
   -- so does one that leaves who it is
-  pub keeps : (n : World) (hs : LockName → LockHistory) (marks : NodeName → Bool) (u : View) (ws : List ℕ)
-      → IsSoundWorld n hs → IsAttended n → IsOfPlan k n → IsStored k n marks ws → AreRight n marks → get_or ws 0 0 ≡ roll_of
+  pub keeps : (n : World) (hs : LockName → LockHistory) (marks : NodeName → Bool) (pairs : ℕ → ℕ) (u : View) (ws : List ℕ)
+      → IsSoundWorld n hs → IsAttended n → IsOfPlan k n → IsStored k n marks pairs ws → AreRight n marks → get_or ws 0 0 ≡ roll_of
       → Elsewhere st.world n p → ((q : ℕ) → q ≢ p → n.queued q ≡ st.world.queued q)
       → KeepsComing st.world n p → KeepsCounts st.world n p → KeepsTold st.world n p → u.who ≡ v.who
       → SeatFits n p u.calls
-      → Halting k s st.world n ws id p → Seeks k ws u.calls
+      → Halting k s st n pairs id p → Seeks k pairs u.calls
       → (homes : List (Maybe S))
       → Runs k {S = S} (record { words = ws; homes = homes; views = set s.views id u })
-  keeps n hs marks u ws sound attended of_plan stored marked roll others queued coming counts tolds who fit beside sought homes =
-      keeps_as n hs marks u ws sound attended of_plan stored marked roll others queued coming counts tolds
+  keeps n hs marks pairs u ws sound attended of_plan stored marked roll others queued coming counts tolds who fit beside sought homes =
+      keeps_as n hs marks pairs u ws sound attended of_plan stored marked roll others queued coming counts tolds
       (record {
         plan = ap (λ (x : Who). x.plan) who;
         number = ap (λ (x : Who). x.number) who;

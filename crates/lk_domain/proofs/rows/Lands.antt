@@ -47,15 +47,16 @@ use Rattle.lk_domain.specs.Calls.{frames_after, holds_after, setting, course, ro
 use Rattle.lk_domain.specs.Calls.{plain, frame_in, told, told_in}
 use Rattle.lk_domain.specs.Calls.{acting, Begins, sight_of, count_of, read_at}
 use Rattle.lk_domain.specs.Runs.{waiter, node_name, SeatFits, IsStored}
-use Rattle.lk_domain.specs.Runs.{AreTold, Runs, Seeks}
-use Rattle.lk_domain.proofs.rows.Halts.{begins_none, halted_row, hash_same}
-use Rattle.lk_domain.specs.Words.{node_number, stored_number, state_number, mark_number}
+use Rattle.lk_domain.specs.Runs.{AreTold, Runs, IsHashed, Seeks}
+use Rattle.lk_domain.proofs.rows.Changes.{halted_row}
+use Rattle.lk_domain.proofs.rows.Halts.{begins_none}
+use Rattle.lk_domain.specs.Words.{node_number}
 use Rattle.lk_domain.specs.declared.plan.Plan.{Plan}
 use Rattle.lk_domain.specs.declared.view.View.{View}
 use Rattle.lk_domain.proofs.words.NodeWords.{none_reset}
 use Rattle.lk_domain.proofs.rows.Grips.{IsOwn, own_lock, rw_target, takes_seeks, release_ends, shared_calm, taken_over}
 use Rattle.lk_domain.proofs.rows.Grips.{taken_suits}
-use Rattle.lk_domain.proofs.words.Locks.{locks_same}
+use Rattle.lk_domain.proofs.words.Written.{renumbered, same_numbers}
 use Rattle.lk_domain.proofs.Manners.{after_held, after_fresh}
 use Rattle.lk_domain.proofs.Stacks.{frame_in-above, frame_in-top}
 use Rattle.lk_domain.proofs.rows.Went as went
@@ -365,11 +366,11 @@ module _ (k : Plan) {S : Type 0} (s : State S View) (st : Runs k s) (id : ℕ) (
 
     -- the step of the call keeps the rule, where the words are those of the world after the row
     pub lands : (y : Met) → plain y ≡ x → IsTrue m pc y → IsMine → (marks : NodeName → Bool) → KeepsMarks m n marks
-        → (u : View) → u.who ≡ v.who → u.calls ≡ row_of (terms_of k) p c y → (ws : List ℕ)
-        → IsStored k n marks ws → get_or ws 0 0 ≡ roll_of → KeepsComing st.world n p → KeepsCounts st.world n p
-        → Halting k s st.world n ws id p → (homes : List (Maybe S))
+        → (pairs : ℕ → ℕ) → (u : View) → u.who ≡ v.who → u.calls ≡ row_of (terms_of k) p c y → (ws : List ℕ)
+        → IsStored k n marks pairs ws → get_or ws 0 0 ≡ roll_of → KeepsComing st.world n p → KeepsCounts st.world n p
+        → Halting k s st n pairs id p → (homes : List (Maybe S))
         → Runs k {S = S} (record { words = ws; homes = homes; views = set s.views id u })
-    lands y meets true_ mine marks links u who calls ws stored roll coming counts beside homes =
+    lands y meets true_ mine marks links pairs u who calls ws stored roll coming counts beside homes =
         let d = done y in
         let r = row_done in
         let is_after : u.calls ≡ after verb f (trail y) acts.rest c t o = calls ∙ rowed y meets true_ in
@@ -378,7 +379,7 @@ module _ (k : Plan) {S : Type 0} (s : State S View) (st : Runs k s) (id : ℕ) (
         let z = at.few in omega arith in
         let below : Rests acts.rest = subst RestsBelow acts.is at.below in
         let same = at.acted.same in
-        rule.keeps k s st id v me p is d.world d.histories marks u ws d.sound (d.attended (at.acted.attended st.attended))
+        rule.keeps k s st id v me p is d.world d.histories marks pairs u ws d.sound (d.attended (at.acted.attended st.attended))
         (record {
           mode = d.mode ∙ (r.mode ∙ same_mode);
           turns = d.turns ∙ (r.turns ∙ (same.turns ∙ st.of_plan.turns));
@@ -387,11 +388,7 @@ module _ (k : Plan) {S : Type 0} (s : State S View) (st : Runs k s) (id : ℕ) (
           sockets = d.sockets ∙ (r.sockets ∙ (same.sockets ∙ st.of_plan.sockets));
           kind = d.kind ∙ (r.kind ∙ (same.kind ∙ st.of_plan.kind));
         })
-        (record {
-          long = stored.long;
-          locks = locks_same k n d.world ws stored.locks (record { word = d.word; rw = d.rw; kind = d.kind });
-          nodes = λ e q a b h. stored.nodes e q a b h ∙ ap (λ (g : NodeName → Node). stored_number (marks e) q (node_number q (g e))) (sym d.node);
-        })
+        (renumbered k stored d.world (same_numbers k pairs n d.world d.word d.rw d.node d.kicked))
         (marked_after m d.world marks (d.mode ∙ r.mode) (grows y mine) (record {
           used = λ awake a b e uses next free. links.used awake a b e uses (ap (λ (g : NodeName → Node). (g a).next) (sym d.node) ∙ next) free;
           says = λ awake a b e i uses next there. links.says awake a b e i uses (ap (λ (g : NodeName → Node). (g a).next) (sym d.node) ∙ next) there;
@@ -399,8 +396,9 @@ module _ (k : Plan) {S : Type 0} (s : State S View) (st : Runs k s) (id : ℕ) (
         })) roll
         (λ y ne. ((d.others y ne).0 ∙ (at.acted.others y ne).0, λ j. (d.others y ne).1 j ∙ (at.acted.others y ne).1 j))
         (λ q ne. ap (λ (g : ℕ → ℕ). g q) d.queued ∙ (r.queued q ne ∙ ap (λ (g : ℕ → ℕ). g q) same.queued))
-        (λ q e ne fit. ap (λ (g : NodeName → Node). g (node_name q (st.world.queued q))) d.node ∙ coming q e ne fit)
-        (λ q e ne fit. counted_after n d.world e (sym d.node) (counts q e ne fit))
+        (λ q e ne fit r. ap (λ (g : NodeName → Node). node_number r (g (node_name q (st.world.queued q)))) d.node
+        ∙ coming q e ne fit r)
+        (λ q e ne fit. counted_after n d.world e (λ b. ap (λ (g : NodeName → Node). (g b).runs) d.node) (counts q e ne fit))
         (told_others y mine)
         who
         (subst (λ (e : Calls). SeatFits d.world p e) (sym is_after) (record {
@@ -422,16 +420,12 @@ module _ (k : Plan) {S : Type 0} (s : State S View) (st : Runs k s) (id : ℕ) (
               (let y : length c.frames ≡ suc (length acts.rest) = ap (λ (xs : List Running). length xs) acts.is in
               let z = at.single (ap halts (sym (d.mode ∙ (r.mode ∙ same.mode))) ∙ on) in omega arith);
           halted = ap (λ (g : ℕ → Bool). g p) d.halted ∙ (ap (λ (g : ℕ → Bool). g p) r.halted
-              ∙ halted_row m w f pc c.halted (ap (λ (g : ℕ → Bool). g p) same.halted ∙ (fits.halted ∙ acting_halted k.mode v.calls verb l.index)));
+              ∙ halted_row k m w f pc c.halted (ap (λ (g : ℕ → Bool). g p) same.halted ∙ (fits.halted ∙ acting_halted k.mode v.calls verb l.index)));
         })) (record {
-          words = λ on. let b = beside.words on in record {
-            states = λ y a i. b.states y a i ∙ ap (λ (g : NodeName → Node). state_number (g y).state) (sym d.node);
-            kicks = λ q lt. b.kicks q lt ∙ ap (λ (g : ℕ → Bool). mark_number (g q)) (sym d.kicked);
-            hash = hash_same k n d.world ws d.entry b.hash;
-          };
+          hashed = λ on. subst (λ (e : LockName → Option NodeName). IsHashed k e pairs) (sym d.entry) (beside.hashed on);
           halted = λ q ne. ap (λ (g : ℕ → Bool). g q) d.halted ∙ beside.halted q ne;
           seeks = beside.seeks;
-        }) (subst (Seeks k ws) (sym is_after) (λ y rs e h. unlooked k ws y.frame.lock.index)) homes
+        }) (subst (Seeks k pairs) (sym is_after) (λ y rs e h. unlooked k pairs y.frame.lock.index)) homes
       where
         none_some : {a : ℕ} → None ≡ Some a → ⊥
         none_some e = cc e

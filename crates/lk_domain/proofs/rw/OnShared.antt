@@ -1,9 +1,9 @@
 -- The steps on the word of a reader-writer lock.
-use Rattle.std.proofs.Common.{◌≡◌, ◌≢◌, ◌⊎◌, inl, inr, ℕ, ◌<◌, ◌≤◌, List, length, set, Bool}
+use Rattle.std.proofs.Common.{◌≡◌, ◌⊎◌, inl, inr, ℕ, ◌<◌, ◌≤◌, List, length, set}
 use Rattle.std.proofs.Common.{get_or, Option, Some, None, true, false, refl, sym, ap, ◌∙◌, subst}
-use Rattle.std.proofs.Common.{arith, length-set, get_or-set_other, eqb, eq-eqb, ne_eqb}
+use Rattle.std.proofs.Common.{arith, eqb, eq-eqb}
 use Rattle.std.proofs.lemmas.Bool.{cases_lt, cases_eq}
-use Rattle.std.specs.Prelude.{unwrap_or}
+use Rattle.std.specs.Prelude.{unwrap_or, if◌then◌else◌}
 use mathlib.Core.Option.{Option as Maybe, some}
 use lib.ListN.{get_elem?}
 use Rattle.atomic_table.specs.Table.{State}
@@ -13,78 +13,57 @@ use Rattle.lk_names.specs.declared.names.Kind.TheVariants.{Rw}
 use Rattle.lk_names.specs.declared.names.Mode.{Mode}
 use Rattle.lk_names.specs.declared.names.Waiter.{Waiter}
 use Rattle.lk_names.specs.declared.names.LockName.{LockName}
-use Rattle.lk_word.specs.declared.spin_word.NodeName.{NodeName}
 use Rattle.lk_word.specs.declared.rw_word.RwFields.{RwFields}
 use Rattle.lk_word.specs.RwWord.{packed_rw, IsPackableRw}
+use Rattle.lk_word.specs.SpinWord.{packed}
 use Rattle.lk_rows.specs.Moves.{rw_name, wait_name}
-use Rattle.lk_rows.specs.declared.parts.Node.{Node}
 use Rattle.lk_rows.specs.declared.parts.Frame.{Frame}
 use Rattle.lk_rows.specs.declared.parts.Pc.{Pc}
 use Rattle.lk_rows.specs.declared.parts.Pc.TheVariants.{C1, Z1, C2}
 use Rattle.lk_rows.specs.declared.setup.Verb.{Verb}
 use Rattle.lk_rows.specs.rows.Rw.{rw_row}
-use Rattle.lk_rows.specs.TopRow.{target}
+use Rattle.lk_rows.specs.TopRow.{Target, target}
 use Rattle.lk_law.specs.Families.{is_rw_row}
 use Rattle.lk_law.specs.Leads.{Shared, met_in, stored_in, enters}
 use Rattle.lk_law.specs.RwKnown.{RwKnown}
 use Rattle.lk_law.specs.RwPhase.{is_counted, is_inner}
 use Rattle.lk_law.specs.RwPhase.RwPhase.{Unreads}
 use Rattle.lk_law.specs.Snapshot.{spins}
-use Rattle.lk_law.specs.SoundWorld.{rw_phases, rw_helds, rw_phase_on, rw_phase_if, rw_phase_at}
+use Rattle.lk_law.specs.SoundWorld.{is_rw, rw_phases, rw_helds, rw_phase_on, rw_phase_if, rw_phase_at}
 use Rattle.lk_law.specs.Steps.{stores_rw}
 use Rattle.lk_law.specs.World.{World}
-use Rattle.lk_law.proofs.common.Puts.{if-true, if-false}
+use Rattle.lk_law.proofs.common.Puts.{if-true}
 use Rattle.lk_law.proofs.rw.Few.{each_few}
 use Rattle.lk_law.proofs.rw.Knows.{rw_row_knows}
 use Rattle.lk_law.proofs.rw.Phases.{rw_here}
 use Rattle.lk_domain.specs.Calls.{terms_of, Calls, StandsOn, row_of, acting, Begins, lock_name, held_in}
 use Rattle.lk_domain.specs.Keeps.{sole_count}
-use Rattle.lk_domain.specs.Plans.{cpus_of, locks_of}
-use Rattle.lk_domain.specs.Runs.{waiter, node_name, IsIdle, IsStored, Runs}
-use Rattle.lk_domain.specs.Words.{lock_at, node_at, node_number, stored_number}
+use Rattle.lk_domain.specs.Plans.{cpus_of, kind_at, layout_in, locks_of}
+use Rattle.lk_domain.specs.Runs.{waiter, IsIdle, Runs}
+use Rattle.lk_domain.specs.Words.{OfLock, number_of, lock_at}
 use Rattle.lk_domain.specs.declared.plan.Plan.{Plan}
 use Rattle.lk_domain.specs.declared.view.View.{View}
 use Rattle.lk_domain.proofs.rows.Grips.{rw_target, shared_bare}
 use Rattle.lk_domain.proofs.rows.Lands as lands
 use Rattle.lk_domain.proofs.rows.Sights.{IsUnseen, IsSeen, Sees}
 use Rattle.lk_domain.proofs.rows.Poised.{Poised}
-use Rattle.lk_domain.proofs.rows.Kept.{counted_after, halting_same}
-use Rattle.lk_domain.proofs.rows.Halts.{marks_trans, acted_marks, rw_marks, far_set}
-use Rattle.lk_domain.proofs.words.Locks.{shared_stored}
+use Rattle.lk_domain.proofs.rows.Changes.{IsAt}
+use Rattle.lk_domain.proofs.rows.Writes.{row_step}
 use Rattle.lk_domain.proofs.Manners.{held_above, held_cases}
 use Rattle.lk_domain.proofs.Stacks.{frame_in-above}
 use Rattle.lk_domain.proofs.seats.Totals.{drawn, nobodys}
 use Rattle.lk_domain.proofs.journals.Held.{reads_sole}
-use Rattle.lk_domain.proofs.rows.Users.{bare_me, kept_marks}
 use Rattle.lk_law.specs.Nodes.{looks_along}
-
-rw_nodes : (m : World) (l : ℕ) (o : Option RwFields) → (stores_rw m l o).node ≡ m.node
-rw_nodes m l None = refl
-rw_nodes m l (Some y) = refl
-
-rw_words : (m : World) (l : ℕ) (o : Option RwFields) → (stores_rw m l o).word ≡ m.word
-rw_words m l None = refl
-rw_words m l (Some y) = refl
 
 stored_here : (m : World) (l : ℕ) (o : Option RwFields) → (stores_rw m l o).rw l ≡ unwrap_or o (m.rw l)
 stored_here m l None = refl
 stored_here m l (Some y) = if-true (eqb l l) y (m.rw l) (eq-eqb l l refl)
 
-stored_else : (m : World) (l j : ℕ) (o : Option RwFields) → j ≢ l → (stores_rw m l o).rw j ≡ m.rw j
-stored_else m l j None ne = refl
-stored_else m l j (Some y) ne = if-false (eqb j l) y (m.rw j) (ne_eqb j l ne)
-
--- the words of a table in which the word of a reader-writer lock has changed
-rw_stored : (k : Plan) (m n : World) (marks : NodeName → Bool) (ws : List ℕ) → IsStored k m marks ws → (l : ℕ) (i : ℕ) → l < locks_of k
-    → m.kind l ≡ Rw → i ≡ packed_rw (n.rw l) → ((j : ℕ) → j ≢ l → n.rw j ≡ m.rw j) → n.word ≡ m.word
-    → n.node ≡ m.node → n.kind ≡ m.kind → IsStored k n marks (set ws (lock_at l) i)
-rw_stored k m n marks ws st l i near on is others words node kind =
-    record {
-      long = length-set ws (lock_at l) i ∙ st.long;
-      locks = shared_stored k m n ws st.locks l i (let z = st.long in omega arith) on is others words kind;
-      nodes = λ a q h b has. get_or-set_other ws (lock_at l) (node_at k a q) i 0 (λ e. omega arith)
-          ∙ (st.nodes a q h b has ∙ ap (λ (g : NodeName → Node). stored_number (marks a) q (node_number q (g a))) (sym node));
-    }
+-- the number of a reader-writer lock
+shared_number : (k : Plan) (m : World) (pairs : ℕ → ℕ) (l : ℕ) → kind_at k l ≡ Rw
+    → number_of k m pairs (OfLock (rw_name l)) ≡ packed_rw (m.rw l)
+shared_number k m pairs l is =
+    ap (λ (z : Kind). if is_rw z then packed_rw (m.rw l) else packed (layout_in k) (m.word (rw_name l))) is
 
 pub off_links : (c : Pc) → is_rw_row c ≡ true → looks_along c ≡ true → ⊥
 off_links C1 on h = cc on
@@ -157,6 +136,9 @@ module _ (k : Plan) {S : Type 0} (s : State S View) (st : Runs k s) (id : ℕ) (
     kind_was : st.world.kind l ≡ Rw
     kind_was = ap (λ (g : ℕ → Kind). g l) (sym at.acted.same.kind) ∙ kind_is
 
+    of_plan : kind_at k l ≡ Rw
+    of_plan = ap (λ (g : ℕ → Kind). g l) (sym st.of_plan.kind) ∙ kind_was
+
     -- a context without a call has not the wait lock
     pub outside : (d : ℕ) → length v.calls.frames ≤ d → held_in v.calls.holds d (wait_name l) ≡ None
     outside d high =
@@ -178,7 +160,9 @@ module _ (k : Plan) {S : Type 0} (s : State S View) (st : Runs k s) (id : ℕ) (
     found = m.rw l
 
     pub found_is : get_or s.words (lock_at l) 0 ≡ packed_rw found
-    found_is = st.stored.locks.shared l near kind_was ∙ ap (λ (g : ℕ → RwFields). packed_rw (g l)) (sym at.acted.same.rw)
+    found_is =
+        st.stored.words (OfLock (rw_name l)) near refl ∙ (shared_number k st.world st.pairs l of_plan
+        ∙ ap (λ (g : ℕ → RwFields). packed_rw (g l)) (sym at.acted.same.rw))
 
     -- it counts no more than six readers a processor
     pub found_packs : IsPackableRw found
@@ -231,22 +215,9 @@ module _ (k : Plan) {S : Type 0} (s : State S View) (st : Runs k s) (id : ℕ) (
         ap (stored_in m w f pc) (rw_target pc f row)
         ∙ ap (λ (i : ℕ). stores_rw m i (rw_row m.mode pc f (m.rw i)).stores) index_is
 
-    row_rw : (lands.n k s st id v me p is verb n pc asks acts unseen).rw ≡ (stores_rw m l stores).rw
-    row_rw = (lands.row_done k s st id v me p is verb n pc asks acts unseen).rw ∙ ap (λ (z : World). z.rw) stored_is
-
-    row_words : (lands.n k s st id v me p is verb n pc asks acts unseen).word ≡ m.word
-    row_words =
-        (lands.row_done k s st id v me p is verb n pc asks acts unseen).word
-        ∙ (ap (λ (z : World). z.word) stored_is ∙ rw_words m l stores)
-
     -- the row gives no node
     row_bare : enters (lands.o k s st id v me p is verb n pc asks acts unseen).leads ≡ false
     row_bare = shared_bare m w f pc (lands.fitting k s st id v me p is verb n pc asks acts unseen) acts.place row
-
-    row_nodes : (lands.n k s st id v me p is verb n pc asks acts unseen).node ≡ m.node
-    row_nodes =
-        (lands.row_done k s st id v me p is verb n pc asks acts unseen).node row_bare
-        ∙ (ap (λ (z : World). z.node) stored_is ∙ rw_nodes m l stores)
 
     -- a step on the word that makes the row of the call, where it writes what the row stores
     pub shared_step : (i : ℕ)
@@ -255,36 +226,13 @@ module _ (k : Plan) {S : Type 0} (s : State S View) (st : Runs k s) (id : ℕ) (
         → u.calls ≡ row_of (terms_of k) p (acting k.mode v.calls verb l) (Shared found) → (homes : List (Maybe S))
         → Runs k {S = S} (record { words = set s.words (lock_at l) i; homes = homes; views = set s.views id u })
     shared_step i writes u who calls homes =
-        let after : World = lands.n k s st id v me p is verb n pc asks acts unseen in
+        let after : World = stored_in m w f pc (target pc f) in
         let mode : k.mode ≡ m.mode = sym (at.acted.same.mode ∙ st.of_plan.mode) in
-        let here : after.rw l ≡ unwrap_or stores found = ap (λ (g : ℕ → RwFields). g l) row_rw ∙ stored_here m l stores in
-        lands.lands k s st id v me p is verb n pc asks acts unseen (Shared found) (sym met_is)
-        (λ e. absurd (off_links pc row e))
-        (λ b mine. inl (bare_me f (lands.o k s st id v me p is verb n pc asks acts unseen).leads b row_bare mine))
-        st.marks
-        (kept_marks m after _ st.marks at.acted.sound.spins
-        (lands.marked_here k s st id v me p is verb n pc asks acts unseen)
-        (λ a b h. ap (λ (g : NodeName → Node). (g a).next) (sym row_nodes) ∙ h))
-        u who calls
-        (set s.words (lock_at l) i)
-        (rw_stored k st.world after st.marks s.words st.stored l i near kind_was
+        let here : after.rw l ≡ unwrap_or stores found = ap (λ (z : World). z.rw l) stored_is ∙ stored_here m l stores in
+        row_step k s st id v me p is verb n pc asks acts unseen (OfLock (rw_name l))
+        (subst (λ (t : Target). IsAt f t (OfLock (rw_name l))) (sym (rw_target pc f row)) (ap rw_name index_is)) row_bare
+        near (λ b r e. cc e) (Shared found) (sym met_is) (λ e. absurd (off_links pc row e)) i
         (writes
-        ∙ (ap (λ (z : Mode). packed_rw (unwrap_or (rw_row z pc f found).stores found)) mode ∙ ap packed_rw (sym here)))
-        (λ j ne. ap (λ (g : ℕ → RwFields). g j) row_rw ∙ (stored_else m l j stores ne ∙ ap (λ (g : ℕ → RwFields). g j) at.acted.same.rw))
-        (row_words ∙ at.acted.same.word) (row_nodes ∙ at.acted.same.node)
-        ((lands.row_done k s st id v me p is verb n pc asks acts unseen).kind ∙ at.acted.same.kind))
-        (get_or-set_other s.words (lock_at l) 0 i 0 (λ e. omega arith))
-        (λ q e ne fit. ap (λ (g : NodeName → Node). g (node_name q (st.world.queued q))) (row_nodes ∙ at.acted.same.node))
-        (λ q e ne fit. counted_after st.world after e (sym (row_nodes ∙ at.acted.same.node)) fit.counted)
-        (halting_same k s st.world after (set s.words (lock_at l) i) id p
-        (far_set k s.words (lock_at l) i (omega arith))
-        (marks_trans (acted_marks at.acted.same)
-        (let d = lands.row_done k s st id v me p is verb n pc asks acts unseen in
-        let z = rw_marks m l stores in
-        record {
-          entry = d.entry ∙ (ap (λ (x : World). x.entry) stored_is ∙ z.entry);
-          halted = d.halted ∙ (ap (λ (x : World). x.halted) stored_is ∙ z.halted);
-          kicked = d.kicked ∙ (ap (λ (x : World). x.kicked) stored_is ∙ z.kicked);
-        }))
-        (λ a. ap (λ (g : NodeName → Node). (g a).state) (row_nodes ∙ at.acted.same.node)) st.halting)
-        homes
+        ∙ (ap (λ (z : Mode). packed_rw (unwrap_or (rw_row z pc f found).stores found)) mode
+        ∙ (ap packed_rw (sym here) ∙ sym (shared_number k after st.pairs l of_plan))))
+        u who calls homes

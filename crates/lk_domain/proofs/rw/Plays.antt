@@ -1,6 +1,6 @@
 -- What the step calls on the words of reader-writer locks ask.
 use Rattle.std.proofs.Common.{◌≡◌, ◌⊎◌, ℕ, ◌<◌, get_or, set}
-use Rattle.std.proofs.Common.{None, Bool, true, false, inl, inr, get_or-set_other, refl, sym, ap, ◌∙◌}
+use Rattle.std.proofs.Common.{None, Bool, true, false, inl, inr, refl, sym, ap, ◌∙◌}
 use Rattle.std.proofs.Common.{subst, arith}
 use mathlib.Core.Option.{some}
 use lib.ListN.{get_elem?}
@@ -28,7 +28,7 @@ use Rattle.lk_domain.specs.RwPlays.{ActsFor, SharedBy, Shares}
 use Rattle.lk_domain.specs.Stand.{Stand}
 use Rattle.lk_domain.specs.Values.{out_in}
 use Rattle.lk_domain.specs.Views.{IsNumbered, own_number}
-use Rattle.lk_domain.specs.Words.{lock_at, version_at, balance_at}
+use Rattle.lk_domain.specs.Words.{OfLock, lock_at}
 use Rattle.lk_domain.specs.declared.plan.Plan.{Plan}
 use Rattle.lk_domain.specs.declared.view.View.{View}
 use Rattle.lk_domain.proofs.rows.Fresh as fresh
@@ -38,7 +38,8 @@ use Rattle.lk_domain.proofs.rows.Sights.{IsSeen}
 use Rattle.lk_domain.proofs.words.LockPlays.{acting_any, acting_sole}
 use Rattle.lk_domain.proofs.journals.Alone.{some_out, out_is}
 use Rattle.lk_domain.proofs.Outs.{acting_holds}
-use Rattle.lk_domain.proofs.journals.Purses.{alters, knows_after}
+use Rattle.lk_domain.proofs.journals.Purses.{alters_at, knows_after}
+use Rattle.lk_domain.proofs.words.Written.{bare}
 use Rattle.lk_domain.proofs.rw.Numbers as numbers
 use Rattle.lk_domain.proofs.rw.OnShared as on
 use Rattle.lk_domain.proofs.rw.OnShared.{off_links}
@@ -160,10 +161,8 @@ module _ (k : Plan) (slots id : ℕ) (m : Me Slot View) (number : IsNumbered m.0
     keeps_on home i =
         let purse : fresh.SamePurse m.0.ledger u.ledger =
         fresh.turned_purse m.0.who.plan (own_number m.0.who.number) (acting m.0.who.plan.mode m.0.calls verb l) (Shared y) m.0.ledger in
-        alters k s both.keeps id m.0 u (set s.words (lock_at l) i) me purse.share (knows home)
-        (get_or-set_other s.words (lock_at l) 0 i 0 (λ e. omega arith))
-        (get_or-set_other s.words (lock_at l) version_at i 0 (λ e. omega arith))
-        (λ a lt. get_or-set_other s.words (lock_at l) (balance_at k a) i 0 (λ e. omega arith)) purse.out refl
+        alters_at k s both.keeps id m.0 u (lock_at l) i (bare k ok.lawful.accounts (OfLock (lock_name l)) near) me purse.share (knows home)
+        purse.out refl
 
     pub is_made : SharedBy verb l m (get_or s.words (lock_at l) 0) (u, m.1)
     is_made =

@@ -1,7 +1,7 @@
 -- A new table; numbers are drawn, and seats are cut and joined.
 use Rattle.std.proofs.Common.{◌≡◌, ◌≢◌, ⊎_elim, inl, ℕ, zero, suc, ◌+◌, ◌%◌, ◌^◌, ◌<◌, false}
 use Rattle.std.proofs.Common.{◌≤◌, List, [], ◌∷◌, drop, length, map, set, get_or, slice_get, Option, Some, None}
-use Rattle.std.proofs.Common.{refl, sym, ap, ◌∙◌, subst, arith, length-set}
+use Rattle.std.proofs.Common.{refl, sym, ap, ◌∙◌, subst, arith}
 use Rattle.std.proofs.Common.{get_or-set_other, get_or-set_same}
 use Rattle.std.specs.List.{sum}
 use Rattle.std.proofs.lemmas.Option.{slice_get-get_or}
@@ -17,7 +17,8 @@ use Rattle.lk_word.specs.declared.spin_word.Layout.{Layout}
 use Rattle.lk_names.specs.declared.names.LockName.{LockName}
 use Rattle.lk_word.specs.declared.spin_word.NodeName.{NodeName}
 use Rattle.lk_rows.specs.declared.parts.Frame.{Frame}
-use Rattle.lk_law.specs.SoundWorld.{IsSoundWorld}
+use Rattle.lk_law.specs.SoundWorld.{IsSoundWorld, is_rw_name}
+use Rattle.std.specs.Prelude.{Bool, true, if◌then◌else◌}
 use Rattle.lk_law.proofs.common.Puts.{not-true}
 use Rattle.lk_word.specs.SpinWord.{packed}
 use Rattle.lk_word.specs.RwWord.{packed_rw}
@@ -36,18 +37,18 @@ use Rattle.lk_domain.specs.Values.{Reaches, outs_of, homes_of, Fits, FitsUnder, 
 use Rattle.lk_domain.specs.Plans.{cpus_of, kind_at, share_of, room_of, layout_in, IsRunningPlan, turns_of}
 use Rattle.lk_domain.specs.Plays.{Draws}
 use Rattle.lk_domain.specs.Runs.{Runs, SeatFits, Deals, Seeks, Mirrors, waiter}
-use Rattle.lk_domain.proofs.rows.Halts.{far_same, far_set, same_marks, seeks_same, IsFarSame}
 use Rattle.lk_domain.specs.Stand.{Stand}
 use Rattle.lk_domain.specs.Views.{view, dealer, drawer, total, times, numbers}
 use Rattle.lk_domain.specs.Views.{once_below}
-use Rattle.lk_domain.specs.Words.{version_at, lock_at, word_at, balance_at, node_at, stored_number, IsOpening, state_at, kick_at, hash_at}
+use Rattle.lk_domain.specs.Words.{Place, OfLock, OfNode, place_at, number_of, with_mark}
+use Rattle.lk_domain.specs.Words.{version_at, balance_at, stored_number, IsOpening}
 use Rattle.lk_domain.specs.declared.ledger.journal.Journal.{Journal}
 use Rattle.lk_domain.specs.declared.plan.Plan.{Plan}
 use Rattle.lk_domain.specs.declared.slot.Stowed.TheVariants.{Entries}
 use Rattle.lk_domain.specs.declared.view.View.{View}
 use Rattle.lk_domain.proofs.words.NodeWords.{none_reset, rest_number, stored_zero}
 use Rattle.lk_domain.proofs.journals.Purses.{place_kept}
-use Rattle.lk_domain.proofs.words.Locks.{word_below, locks_else, same_locks}
+use Rattle.lk_domain.proofs.words.Written.{bare, behind, unwritten}
 use Rattle.lk_domain.proofs.seats.Totals.{total-set, once_no, once_more, drawn}
 
 number_is : {a b : ℕ} → Some a ≡ Some b → a ≡ b
@@ -122,6 +123,15 @@ module _ (k : Plan) (ws : List ℕ) (j : Journal) (lawful : IsRunningPlan k) (op
   abbrev w : World
   w = world_at_rest k.format k.mode (turns_of k) k.threshold k.topology.sockets.items (kind_at k)
 
+  rest_numbers : (x : Place) → 0 ≡ with_mark (λ n. false) x (number_of k w (λ i. 0) x)
+  rest_numbers (OfLock l) = by (is_rw_name (kind_at k) l)
+    where
+      by : (b : Bool) → 0 ≡ (if b then packed_rw rest_rw else packed (layout_in k) rest_word)
+      by true = rest_shared
+      by false = rest_packed (layout_in k)
+  rest_numbers (OfNode n q) = sym (ap (stored_number false q) (rest_number q) ∙ stored_zero false q)
+  rest_numbers _ = refl
+
   roll : get_or ws 0 0 ≡ 0
   roll = opens.zeros 0 (λ a lt e. omega arith)
 
@@ -143,24 +153,16 @@ module _ (k : Plan) (ws : List ℕ) (j : Journal) (lawful : IsRunningPlan k) (op
         attended = attended_at_rest w (λ u f live. absurd (none_some live));
         of_plan = record { mode = refl; turns = refl; threshold = refl; format = refl; sockets = refl; kind = refl };
         marks = λ n. false;
+        pairs = λ i. 0;
         marked = record { says = λ awake a b u uses next. absurd (none_some uses.1); bare = λ on a. refl };
         stored = record {
           long = opens.long;
-          locks = record {
-            plain = λ n h off. opens.zeros (word_at n) (λ a lt e. let z = word_below k n h in omega arith) ∙ rest_packed (layout_in k);
-            shared = λ l h rw. opens.zeros (lock_at l) (λ a lt e. omega arith) ∙ rest_shared;
-          };
-          nodes = λ n q h i has. opens.zeros (node_at k n q) (λ a lt e. omega arith)
-              ∙ sym (ap (stored_number false q) (rest_number q) ∙ stored_zero false q);
+          words = λ x at read. opens.zeros (place_at k x) (λ a lt e. (bare k few x at).balances a lt e) ∙ rest_numbers x;
         };
-        halting = λ on. record {
-          states = λ n lt low. opens.zeros (state_at k n) (λ a lt e. omega arith);
-          kicks = λ p lt. opens.zeros (kick_at k p) (λ a lt e. omega arith);
-          hash = record {
-            entered = λ l n e. absurd (none_node e);
-            placed = λ i lt. inl (opens.zeros (hash_at k i) (λ a lt e. omega arith));
-            once = λ i j l a b lt kt na nb low x y. absurd (let z : get_or ws (hash_at k i) 0 ≡ 0 = opens.zeros (hash_at k i) (λ a lt e. omega arith) in omega (arith, z, x));
-          };
+        hashed = λ on. record {
+          entered = λ l n e. absurd (none_node e);
+          placed = λ i lt. inl refl;
+          once = λ i j l a b lt kt na nb low x y. absurd (omega (arith, x));
         };
         seeks = λ id v at x rs e h. absurd (no_frame (ap (λ (y : View). y.calls.frames) (first id v at).1 ∙ e));
         seats = λ id v p at is. absurd (none_numbered id p v at is);
@@ -272,9 +274,6 @@ module _ (k plan : Plan) (slots id : ℕ) (m : Me Slot View) (n : ℕ) (t : Step
     other : (i : ℕ) → i ≢ 0 → get_or ws i 0 ≡ get_or s.words i 0
     other i ne = get_or-set_other s.words 0 i (n + 1) 0 ne
 
-    far : IsFarSame k s.words ws
-    far = far_set k s.words 0 (n + 1) (omega arith)
-
     fresh : (j : ℕ) (x : View) (p : ℕ) → r ≤ p → get_elem? s.views j ≡ some x → x.who.number ≡ Some p → ⊥
     fresh j x p h at e = unseated s.views r ok.once p h j x at e
 
@@ -289,16 +288,13 @@ module _ (k plan : Plan) (slots id : ℕ) (m : Me Slot View) (n : ℕ) (t : Step
           attended = ok.attended;
           of_plan = ok.of_plan;
           marks = ok.marks;
+          pairs = ok.pairs;
           marked = ok.marked;
-          stored = record {
-            long = length-set s.words 0 (n + 1) ∙ ok.stored.long;
-            locks = locks_else k ok.world ok.world s.words ok.stored.locks 0 (n + 1) (inl (omega arith)) (same_locks ok.world);
-            nodes = λ y q h x has. other (node_at k y q) (λ e. omega arith) ∙ ok.stored.nodes y q h x has;
-          };
-          halting = λ on. far_same k ok.world ok.world s.words ws far (same_marks ok.world) (λ a. refl) (ok.halting on);
+          stored = unwritten k ok.stored 0 (n + 1) (λ x h e. let a = behind k x h in omega (arith, e, a));
+          hashed = ok.hashed;
           seeks = λ j x at. ⊎_elim
-              (λ a. subst (λ (y : View). Seeks k ws y.calls) a.1 (λ y rs e h. absurd (no_frame e)))
-              (λ a. seeks_same k s.words ws far x.calls (ok.seeks j x a.1)) (at_set s.views id j u x at);
+              (λ a. subst (λ (y : View). Seeks k ok.pairs y.calls) a.1 (λ y rs e h. absurd (no_frame e)))
+              (λ a. ok.seeks j x a.1) (at_set s.views id j u x at);
           seats = λ j x q at e. ⊎_elim
               (λ a. let z : n ≡ q = number_is (ap (λ (y : View). y.who.number) a.1 ∙ e) in
               subst (λ (y : View). SeatFits ok.world q y.calls) a.1

@@ -71,11 +71,12 @@ splits k plan id n s both me =
         attended = ok.attended;
         of_plan = ok.of_plan;
         marks = ok.marks;
+        pairs = ok.pairs;
         stored = ok.stored;
         marked = ok.marked;
-        halting = ok.halting;
-        seeks = each (λ j y. Seeks k s.words y.calls) (λ x rs e h. absurd (no_frame e))
-            (λ y e j. subst (Seeks k s.words) (ap (λ (z : View). z.calls) e) (λ x rs e h. absurd (no_frame e)))
+        hashed = ok.hashed;
+        seeks = each (λ j y. Seeks k ok.pairs y.calls) (λ x rs e h. absurd (no_frame e))
+            (λ y e j. subst (Seeks k ok.pairs) (ap (λ (z : View). z.calls) e) (λ x rs e h. absurd (no_frame e)))
             ok.seeks;
         seats = λ j y q. each (λ j y. y.who.number ≡ Some q → SeatFits ok.world q y.calls) (λ e. absurd (none_some e))
             (λ y e j is. subst (λ (c : Calls). SeatFits ok.world q c) (ap (λ (z : View). z.calls) e)
@@ -191,10 +192,11 @@ joins k id other v u number rests s both me ne at_other =
         attended = ok.attended;
         of_plan = ok.of_plan;
         marks = ok.marks;
+        pairs = ok.pairs;
         stored = ok.stored;
         marked = ok.marked;
-        halting = ok.halting;
-        seeks = each (λ j y. Seeks k s.words y.calls) (ok.seeks id v me) (λ j x rs e h. absurd (no_frame e)) ok.seeks;
+        hashed = ok.hashed;
+        seeks = each (λ j y. Seeks k ok.pairs y.calls) (ok.seeks id v me) (λ j x rs e h. absurd (no_frame e)) ok.seeks;
         seats = λ j y q. each (λ j y. y.who.number ≡ Some q → SeatFits ok.world q y.calls)
             (λ e. ok.seats id v q me e) (λ j e. absurd (none_some e)) (λ j y at is. ok.seats j y q at is) j y;
         once = λ p.

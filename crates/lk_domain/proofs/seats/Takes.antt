@@ -26,7 +26,6 @@ use Rattle.lk_domain.specs.declared.slot.Stowed.TheVariants.{CellKey}
 use Rattle.lk_domain.specs.declared.view.View.{View}
 use Rattle.lk_domain.proofs.Outs.{stays_out}
 use Rattle.lk_domain.proofs.journals.Purses.{open_same, place_kept}
-use Rattle.lk_domain.proofs.rows.Halts.{same_marks}
 use Rattle.lk_domain.proofs.rows.Kept as rule
 use Rattle.lk_domain.proofs.rows.Kept.{halting_same}
 use Rattle.lk_domain.proofs.seats.Totals.{total-same}
@@ -91,11 +90,11 @@ module _ (k : Plan) (s : State Slot View) (both : Stand k s) (id : ℕ) (v : Vie
     runs =
         let st = both.runs in
         subst (λ (xs : List ℕ). Runs k {S = Slot} (record { words = xs; homes = homes; views = set s.views id w })) (sym (set-get_or s.words i 0))
-        (rule.keeps_as k s st id v me n.0 n.1 st.world st.histories st.marks w s.words st.sound st.attended st.of_plan st.stored
+        (rule.keeps_as k s st id v me n.0 n.1 st.world st.histories st.marks st.pairs w s.words st.sound st.attended st.of_plan st.stored
         (rule.right k s st id v me n.0 n.1) refl
-        (λ u ne. (refl, λ m. refl)) (λ p ne. refl) (λ p d ne f. refl) (λ p d ne f. f.counted) (λ p d ne f. f.told)
+        (λ u ne. (refl, λ m. refl)) (λ p ne. refl) (λ p d ne f r. refl) (λ p d ne f. f.counted) (λ p d ne f. f.told)
         (record { plan = refl; number = refl; ended = refl; dealt = refl }) fits
-        (halting_same k s st.world st.world s.words id n.0 (λ j far. refl) (same_marks st.world) (λ b. refl) st.halting)
+        (halting_same k s st st.world id n.0 refl (λ q ne. refl))
         (st.seeks id v me) homes)
 
     knows : ((m : ℕ) → Among m ls → IsOutAt k m v.who.number hs) → Knows k kp.journal w

@@ -1,6 +1,6 @@
 -- What the step calls on the words of locks ask.
 use Rattle.std.proofs.Common.{◌≡◌, ℕ, ◌<◌, get_or, set}
-use Rattle.std.proofs.Common.{Bool, true, IfSome, get_or-set_other, refl, sym, ap, ◌∙◌}
+use Rattle.std.proofs.Common.{Bool, true, IfSome, refl, sym, ap, ◌∙◌}
 use Rattle.std.proofs.Common.{subst, arith}
 use Rattle.std.specs.Prelude.{unwrap_or}
 use mathlib.Core.Option.{some}
@@ -28,7 +28,7 @@ use Rattle.lk_domain.specs.Plays.{Makes, MadeBy, Acts, made, turned_of}
 use Rattle.lk_domain.specs.Runs.{Runs, waiter}
 use Rattle.lk_domain.specs.Stand.{Stand}
 use Rattle.lk_domain.specs.Views.{IsNumbered, own_number}
-use Rattle.lk_domain.specs.Words.{lock_at, word_at, version_at, balance_at, IsNode}
+use Rattle.lk_domain.specs.Words.{OfLock, lock_at, word_at, IsNode}
 use Rattle.lk_domain.specs.declared.plan.Plan.{Plan}
 use Rattle.lk_domain.specs.declared.view.View.{View}
 use Rattle.lk_law.proofs.common.Puts.{if_cases}
@@ -37,11 +37,11 @@ use Rattle.lk_domain.proofs.journals.Held.{moved_any, moved_sole}
 use Rattle.lk_domain.proofs.rows.Grips.{own_lock}
 use Rattle.lk_domain.proofs.rows.Lands as lands
 use Rattle.lk_domain.proofs.rows.Sights.{IsSeen}
-use Rattle.lk_domain.proofs.words.Locks.{word_from, word_below}
+use Rattle.lk_domain.proofs.words.Written.{bare}
 use Rattle.lk_domain.proofs.words.OnWords as on
 use Rattle.lk_domain.proofs.words.OnWords.{OnWord, word_stores, on_word, word_seen, KnownHere, off_links}
 use Rattle.lk_domain.proofs.Outs.{acting_holds}
-use Rattle.lk_domain.proofs.journals.Purses.{alters, knows_after}
+use Rattle.lk_domain.proofs.journals.Purses.{alters_at, knows_after}
 
 -- what a step that writes f of the word has to do with the row
 abbrev pub Writes : Layout → Pc → (ℕ → ℕ) → Type 0
@@ -168,11 +168,7 @@ module _ (k : Plan) (slots id : ℕ) (m : Me Slot View) (number : IsNumbered m.0
     keeps_on i =
         let purse : fresh.SamePurse m.0.ledger u.ledger =
         fresh.turned_purse m.0.who.plan (own_number m.0.who.number) (acting m.0.who.plan.mode m.0.calls verb l.index) (Word y) m.0.ledger in
-        let from = word_from l in let below = word_below k l near in
-        alters k s both.keeps id m.0 u (set s.words (word_at l) i) me purse.share knows
-        (get_or-set_other s.words (word_at l) 0 i 0 (λ e. omega arith))
-        (get_or-set_other s.words (word_at l) version_at i 0 (λ e. omega arith))
-        (λ a lt. get_or-set_other s.words (word_at l) (balance_at k a) i 0 (λ e. omega arith)) purse.out refl
+        alters_at k s both.keeps id m.0 u (word_at l) i (bare k ok.lawful.accounts (OfLock l) near) me purse.share knows purse.out refl
 
     pub y_tail : IfSome y.tail (IsNode m.0.who.plan)
     y_tail =

@@ -94,8 +94,8 @@ below_last mode part.Runs part.SecondTail h has too ne = omega arith
 below_last mode part.Runs part.Runs h has too ne = absurd (ne refl)
 
 -- where two words stand at one place of a table, they are one
-pub place_is : (k : Plan) (a b : NodeName) (q r : Part) → node_at k a q ≡ node_at k b r → q ≡ r
-place_is k a b q r e = part_is q r (let x = low q in let y = low r in omega arith)
+pub part_at : (k : Plan) (a b : NodeName) (q r : Part) → node_at k a q ≡ node_at k b r → q ≡ r
+part_at k a b q r e = part_is q r (let x = low q in let y = low r in omega arith)
 
 pub name_is : (k : Plan) (a b : NodeName) (q r : Part) → a.index < 4 → b.index < 4
     → node_at k a q ≡ node_at k b r → a ≡ b

@@ -1,9 +1,9 @@
 -- The steps on the word of a lock.
 use Rattle.std.proofs.Common.{◌≡◌, ◌≢◌, inl, inr, ℕ, ◌<◌, List, set, Bool, true}
 use Rattle.std.proofs.Common.{get_or, Option, Some, None, false, refl, sym, ap, ◌∙◌}
-use Rattle.std.proofs.Common.{arith, length-set, get_or-set_other, IfSome}
+use Rattle.std.proofs.Common.{arith, IfSome}
 use Rattle.std.proofs.lemmas.Bool.{cases_lt, cases_eq}
-use Rattle.std.specs.Prelude.{unwrap_or}
+use Rattle.std.specs.Prelude.{unwrap_or, if◌then◌else◌}
 use mathlib.Core.Option.{Option as Maybe, some}
 use lib.ListN.{get_elem?}
 use Rattle.atomic_table.specs.Table.{State}
@@ -16,8 +16,8 @@ use Rattle.lk_names.specs.declared.names.LockName.{LockName}
 use Rattle.lk_word.specs.declared.spin_word.NodeName.{NodeName}
 use Rattle.lk_word.specs.declared.spin_word.Fields.{Fields}
 use Rattle.lk_word.proofs.SpinWordLemmas.{from_narrow}
+use Rattle.lk_word.specs.RwWord.{packed_rw}
 use Rattle.lk_word.specs.SpinWord.{packed, IsPackable, IsTailInRange}
-use Rattle.lk_rows.specs.declared.parts.Node.{Node}
 use Rattle.lk_rows.specs.declared.parts.Frame.{Frame}
 use Rattle.lk_rows.specs.declared.parts.Pc.{Pc}
 use Rattle.lk_rows.specs.declared.parts.Pc.TheVariants.{G1, C1, C2, H1}
@@ -37,25 +37,23 @@ use Rattle.lk_law.proofs.common.Knows.{row_knows, tail_is_used}
 use Rattle.lk_law.proofs.running.Nodes.{here}
 use Rattle.lk_law.specs.Phase.{pends}
 use Rattle.lk_law.specs.Places.{phase_at}
-use Rattle.lk_law.proofs.common.Puts.{if-true, if-false, same_lock-else}
+use Rattle.lk_law.proofs.common.Puts.{if-true}
 use Rattle.lk_law.proofs.common.Sames.{same_lock-self}
 use Rattle.lk_law.proofs.running.Calm.{node_comes_at_entry}
 use Rattle.lk_domain.specs.Calls.{terms_of, StandsOn, row_of, acting, Begins}
-use Rattle.lk_domain.specs.Plans.{cpus_of, locks_of, layout_in}
-use Rattle.lk_domain.specs.Runs.{waiter, node_name, IsStored, Runs}
-use Rattle.lk_domain.specs.Words.{word_at, node_at, node_number, IsNode, stored_number}
+use Rattle.lk_domain.specs.Plans.{cpus_of, kind_at, locks_of, layout_in}
+use Rattle.lk_domain.specs.Runs.{waiter, Runs}
+use Rattle.lk_domain.specs.Words.{OfLock, number_of, word_at, IsNode}
 use Rattle.lk_domain.specs.declared.plan.Plan.{Plan}
 use Rattle.lk_domain.specs.declared.view.View.{View}
 use Rattle.lk_domain.proofs.rows.Begun.{Elsewhere}
 use Rattle.lk_domain.proofs.rows.Lands as lands
 use Rattle.lk_domain.proofs.rows.Grips.{IsOwn, own_row, plain_name}
-use Rattle.lk_domain.proofs.rows.Halts.{SameMarks, marks_trans, word_marks, far_set, acted_marks}
-use Rattle.lk_domain.proofs.rows.Kept.{counted_after, halting_same}
+use Rattle.lk_domain.proofs.rows.Changes.{IsAt}
+use Rattle.lk_domain.proofs.rows.Writes.{row_step}
 use Rattle.lk_domain.proofs.rows.Sights.{IsSeen, Sees}
 use Rattle.lk_domain.proofs.rows.Poised.{Poised}
-use Rattle.lk_domain.proofs.words.Locks.{word_from, word_below, plain_stored}
 use Rattle.lk_domain.proofs.seats.Totals.{drawn, nobodys}
-use Rattle.lk_domain.proofs.rows.Users.{bare_me, kept_marks}
 use Rattle.lk_law.specs.Nodes.{looks_along}
 
 -- what is known of the word that a row meets: by one of a family that halts no processor, and by one of
@@ -121,23 +119,18 @@ word_of m w f c ChoiceWord h = refl
 word_of m w f c PvWord h = ap (stores_word m f.lock) (turns_stored m.turns 1 c f (m.word f.lock))
 word_of m w f c _ h = absurd h
 
-word_nodes : (m : World) (l : LockName) (o : Option Fields) → (stores_word m l o).node ≡ m.node
-word_nodes m l None = refl
-word_nodes m l (Some y) = refl
-
 word_here : (m : World) (l : LockName) (o : Option Fields)
     → (stores_word m l o).word l ≡ unwrap_or o (m.word l)
 word_here m l None = refl
 word_here m l (Some y) = if-true (same_lock l l) y (m.word l) (same_lock-self l)
 
-word_rws : (m : World) (l : LockName) (o : Option Fields) → (stores_word m l o).rw ≡ m.rw
-word_rws m l None = refl
-word_rws m l (Some y) = refl
-
-word_else : (m : World) (l j : LockName) (o : Option Fields) → same_lock j l ≡ false
-    → (stores_word m l o).word j ≡ m.word j
-word_else m l j None h = refl
-word_else m l j (Some y) h = if-false (same_lock j l) y (m.word j) h
+-- it is that of the frame's lock
+on_lock : (t : Target) (f : Frame) (l : LockName) → f.lock ≡ l → OnWord t → IsAt f t (OfLock l)
+on_lock SpinWord f l e h = e
+on_lock QueueWord f l e h = e
+on_lock ChoiceWord f l e h = e
+on_lock PvWord f l e h = e
+on_lock _ f l e h = absurd h
 
 -- a row on a word is no look along links
 pub off_links : (c : Pc) (f : Frame) → OnWord (target c f) → looks_along c ≡ true → ⊥
@@ -145,19 +138,11 @@ off_links C1 f on h = on
 off_links C2 f on h = on
 off_links _ f on h = cc h
 
--- the words of a table in which the word of a spinlock or a wait lock has changed
-pub lock_stored : (k : Plan) (m n : World) (marks : NodeName → Bool) (ws : List ℕ) → IsStored k m marks ws → (l : LockName) (i : ℕ)
-    → l.index < locks_of k → is_rw_name m.kind l ≡ false → i ≡ packed (layout_in k) (n.word l)
-    → ((j : LockName) → j ≢ l → n.word j ≡ m.word j) → n.node ≡ m.node → n.rw ≡ m.rw → n.kind ≡ m.kind
-    → IsStored k n marks (set ws (word_at l) i)
-lock_stored k m n marks ws st l i near off is others node rws kind =
-    let below = word_below k l near in
-    record {
-      long = length-set ws (word_at l) i ∙ st.long;
-      locks = plain_stored k m n ws st.locks l i (let z = st.long in omega arith) off is others rws kind;
-      nodes = λ a q h b has. get_or-set_other ws (word_at l) (node_at k a q) i 0 (λ e. omega arith)
-          ∙ (st.nodes a q h b has ∙ ap (λ (g : NodeName → Node). stored_number (marks a) q (node_number q (g a))) (sym node));
-    }
+-- the number of a spinlock or a wait lock
+pub plain_number : (k : Plan) (m : World) (pairs : ℕ → ℕ) (l : LockName) → is_rw_name (kind_at k) l ≡ false
+    → number_of k m pairs (OfLock l) ≡ packed (layout_in k) (m.word l)
+plain_number k m pairs l off =
+    ap (λ (b : Bool). if b then packed_rw (m.rw l.index) else packed (layout_in k) (m.word l)) off
 
 module _ (k : Plan) {S : Type 0} (s : State S View) (st : Runs k s) (id : ℕ) (v : View)
     (me : get_elem? s.views id ≡ some v) (p : ℕ) (is : v.who.number ≡ Some p) where
@@ -226,14 +211,16 @@ module _ (k : Plan) {S : Type 0} (s : State S View) (st : Runs k s) (id : ℕ) (
     row_is = own_row pc acts.frame (on_word (target pc acts.frame) on)
 
     -- the lock of the row is no reader-writer lock
-    pub plain_lock : is_rw_name st.world.kind l ≡ false
+    pub plain_lock : is_rw_name (kind_at k) l ≡ false
     plain_lock =
-        ap (is_rw_name st.world.kind) (sym acts.lock)
-        ∙ (ap (λ (g : ℕ → Kind). is_rw_name g f.lock) (sym at.acted.same.kind)
+        ap (is_rw_name (kind_at k)) (sym acts.lock)
+        ∙ (ap (λ (g : ℕ → Kind). is_rw_name g f.lock) (sym (at.acted.same.kind ∙ st.of_plan.kind))
         ∙ plain_name m.kind f pc (lands.fitting k s st id v me p is verb l pc asks acts unseen) acts.place row_is)
 
     pub found_is : get_or s.words (word_at l) 0 ≡ packed (layout_in k) found
-    found_is = st.stored.locks.plain l near plain_lock ∙ λ i. packed (layout_in k) (sym at.acted.same.word i (sym acts.lock i))
+    found_is =
+        st.stored.words (OfLock l) near refl ∙ (plain_number k st.world st.pairs l plain_lock
+        ∙ λ i. packed (layout_in k) (sym at.acted.same.word i (sym acts.lock i)))
 
     pub found_packs : IsPackable (layout_in k) found
     found_packs = packable m at.acted.histories at.acted.sound at.acted.others f.lock
@@ -259,11 +246,6 @@ module _ (k : Plan) {S : Type 0} (s : State S View) (st : Runs k s) (id : ℕ) (
     abbrev stores : Option Fields
     stores = word_stores m.mode pc f (target pc f) found
 
-    row_words : (lands.n k s st id v me p is verb l pc asks acts unseen).word ≡ (stores_word m f.lock stores).word
-    row_words =
-        (lands.row_done k s st id v me p is verb l pc asks acts unseen).word
-        ∙ ap (λ (z : World). z.word) (word_of m w f pc (target pc f) on)
-
     -- the row gives no node
     row_bare : enters (lands.o k s st id v me p is verb l pc asks acts unseen).leads ≡ false
     row_bare =
@@ -272,27 +254,6 @@ module _ (k : Plan) {S : Type 0} (s : State S View) (st : Runs k s) (id : ℕ) (
         (lands.fitting k s st id v me p is verb l pc asks acts unseen).after
         (not_entry pc f on)
 
-    row_nodes : (lands.n k s st id v me p is verb l pc asks acts unseen).node ≡ m.node
-    row_nodes =
-        (lands.row_done k s st id v me p is verb l pc asks acts unseen).node row_bare
-        ∙ (ap (λ (z : World). z.node) (word_of m w f pc (target pc f) on) ∙ word_nodes m f.lock stores)
-
-    row_marks : SameMarks m (lands.n k s st id v me p is verb l pc asks acts unseen)
-    row_marks =
-        let d = lands.row_done k s st id v me p is verb l pc asks acts unseen in
-        let z = word_marks m f.lock stores in
-        let e = word_of m w f pc (target pc f) on in
-        record {
-          entry = d.entry ∙ (ap (λ (x : World). x.entry) e ∙ z.entry);
-          halted = d.halted ∙ (ap (λ (x : World). x.halted) e ∙ z.halted);
-          kicked = d.kicked ∙ (ap (λ (x : World). x.kicked) e ∙ z.kicked);
-        }
-
-    row_rws : (lands.n k s st id v me p is verb l pc asks acts unseen).rw ≡ m.rw
-    row_rws =
-        (lands.row_done k s st id v me p is verb l pc asks acts unseen).rw
-        ∙ (ap (λ (z : World). z.rw) (word_of m w f pc (target pc f) on) ∙ word_rws m f.lock stores)
-
     -- a step on a lock word that makes the row of the call, where it writes what the row stores
     pub word_step : (i : ℕ)
         → i ≡ packed (layout_in k) (unwrap_or (word_stores k.mode pc f (target pc f) found) found)
@@ -300,33 +261,13 @@ module _ (k : Plan) {S : Type 0} (s : State S View) (st : Runs k s) (id : ℕ) (
         → u.calls ≡ row_of (terms_of k) p (acting k.mode v.calls verb l.index) (Word found) → (homes : List (Maybe S))
         → Runs k {S = S} (record { words = set s.words (word_at l) i; homes = homes; views = set s.views id u })
     word_step i writes u who calls homes =
-        let n : World = lands.n k s st id v me p is verb l pc asks acts unseen in
+        let after : World = stored_in m w f pc (target pc f) in
         let mode : k.mode ≡ m.mode = sym (at.acted.same.mode ∙ st.of_plan.mode) in
-        let here : n.word l ≡ unwrap_or stores found =
-        (λ j. row_words j (sym acts.lock j)) ∙ word_here m f.lock stores in
-        let low = word_from l in let high = word_below k l near in
-        lands.lands k s st id v me p is verb l pc asks acts unseen (Word found) (sym met_is)
-        (λ e. absurd (off_links pc acts.frame on e))
-        (λ b mine. inl (bare_me f (lands.o k s st id v me p is verb l pc asks acts unseen).leads b row_bare mine))
-        st.marks
-        (kept_marks m n _ st.marks at.acted.sound.spins
-        (lands.marked_here k s st id v me p is verb l pc asks acts unseen)
-        (λ a b h. ap (λ (g : NodeName → Node). (g a).next) (sym row_nodes) ∙ h))
-        u who calls
-        (set s.words (word_at l) i)
-        (lock_stored k st.world n st.marks s.words st.stored l i near plain_lock
+        let here : after.word l ≡ unwrap_or stores found =
+        (λ j. (word_of m w f pc (target pc f) on j).word (sym acts.lock j)) ∙ word_here m f.lock stores in
+        row_step k s st id v me p is verb l pc asks acts unseen (OfLock l) (on_lock (target pc f) f l acts.lock on) row_bare
+        near (λ b r e. cc e) (Word found) (sym met_is) (λ e. absurd (off_links pc acts.frame on e)) i
         (writes
         ∙ (ap (λ (z : Mode). packed (layout_in k) (unwrap_or (word_stores z pc f (target pc f) found) found)) mode
-        ∙ ap (packed (layout_in k)) (sym here)))
-        (λ j ne. ap (λ (g : LockName → Fields). g j) row_words
-        ∙ (word_else m f.lock j stores (ap (same_lock j) acts.lock ∙ same_lock-else j l ne)
-        ∙ ap (λ (g : LockName → Fields). g j) at.acted.same.word))
-        (row_nodes ∙ at.acted.same.node) (row_rws ∙ at.acted.same.rw)
-        ((lands.row_done k s st id v me p is verb l pc asks acts unseen).kind ∙ at.acted.same.kind))
-        (get_or-set_other s.words (word_at l) 0 i 0 (λ e. omega arith))
-        (λ q e ne fit. ap (λ (g : NodeName → Node). g (node_name q (st.world.queued q))) (row_nodes ∙ at.acted.same.node))
-        (λ q e ne fit. counted_after st.world n e (sym (row_nodes ∙ at.acted.same.node)) fit.counted)
-        (halting_same k s st.world n (set s.words (word_at l) i) id p (far_set k s.words (word_at l) i (omega arith))
-        (marks_trans (acted_marks at.acted.same) row_marks)
-        (λ a. ap (λ (g : NodeName → Node). (g a).state) (row_nodes ∙ at.acted.same.node)) st.halting)
-        homes
+        ∙ (ap (packed (layout_in k)) (sym here) ∙ sym (plain_number k after st.pairs l plain_lock))))
+        u who calls homes

@@ -1,6 +1,6 @@
 -- What the steps on kick words ask.
-use Rattle.std.proofs.Common.{◌≡◌, ℕ, ◌<◌, ◌≤◌, get_or, set, Some, Bool, true, false}
-use Rattle.std.proofs.Common.{refl, sym, ap, ◌∙◌, subst, arith, get_or-set_other, [], ◌∷◌}
+use Rattle.std.proofs.Common.{◌≡◌, ℕ, ◌<◌, get_or, set, Some, Bool, true, false}
+use Rattle.std.proofs.Common.{refl, sym, ap, ◌∙◌, subst, [], ◌∷◌}
 use mathlib.Core.Logic.{dite}
 use native.Mathlib.Decide.{ℕ_discrete}
 use mathlib.Core.Option.{some}
@@ -17,20 +17,21 @@ use Rattle.lk_law.specs.Leads.{Met, Marked, held_lock}
 use Rattle.lk_domain.specs.Calls.{terms_of, Calls, Running, StandsOn, acting, grip_of, plain}
 use Rattle.lk_domain.specs.Keeps.{AllHome, Slot, Keeps, Knows}
 use Rattle.lk_domain.specs.Ledgers.{turned}
-use Rattle.lk_domain.specs.Plans.{accounts_of, cpus_of}
+use Rattle.lk_domain.specs.Plans.{cpus_of}
 use Rattle.lk_domain.specs.Plays.{went, turned_of}
 use Rattle.lk_domain.specs.Runs.{Runs}
 use Rattle.lk_domain.specs.Stand.{Stand}
 use Rattle.lk_domain.specs.Views.{IsNumbered, own_number}
-use Rattle.lk_domain.specs.Words.{version_at, balance_at, kick_at}
+use Rattle.lk_domain.specs.Words.{OfKick, kick_at}
 use Rattle.lk_domain.specs.declared.plan.Plan.{Plan}
 use Rattle.lk_domain.specs.declared.view.View.{View}
 use Rattle.lk_domain.proofs.Acting.{acting_is}
 use Rattle.lk_domain.proofs.Outs.{acting_holds}
-use Rattle.lk_domain.proofs.journals.Purses.{alters, knows_after, knows_same}
+use Rattle.lk_domain.proofs.journals.Purses.{alters_at, knows_after, knows_same}
 use Rattle.lk_domain.proofs.queue.LockSwaps.{stands}
 use Rattle.lk_domain.proofs.queue.NodePlays.{acts', asks, calls_are, kept, planned}
-use Rattle.lk_domain.proofs.queue.Relinks.{IsBare}
+use Rattle.lk_domain.proofs.queue.OnNodes.{in_plan}
+use Rattle.lk_domain.proofs.words.Written.{IsBare, bare}
 use Rattle.lk_domain.proofs.rows.Fresh as fresh
 use Rattle.lk_domain.proofs.rows.Lands as lands
 use Rattle.lk_domain.proofs.rows.Sights.{IsSeen}
@@ -41,10 +42,6 @@ use Rattle.lk_pvdomain.proofs.OnMarks as on
 use Rattle.lk_pvdomain.proofs.Unmarked.{halt_off}
 use Rattle.lk_domain.proofs.rows.Users.{IsTrue}
 use Rattle.lk_law.specs.World.{World}
-
-kick_bare : (k : Plan) (p : ℕ) → accounts_of k ≤ 64 → IsBare k (kick_at k p)
-kick_bare k p few =
-    record { roll = λ e. omega (arith, e); version = λ e. omega (arith, e); balances = λ b lt e. omega (arith, e, lt, few) }
 
 halt_frees : (c : Pc) → halts_at c ≡ true → MayFree c → ⊥
 halt_frees W6 h t = cc t.3
@@ -71,7 +68,7 @@ halt_plays k slots id m number v lock pc halting acts has awake s both long me s
         runs = on.halt_step k s st id m.0 me p number.1 halting v lock pc ask go has same awake (went m.0 (Marked false)) refl
             (calls_are k id m number v lock pc acts s both me (Marked false)) s.homes;
         keeps = kept k id m number v lock pc acts s both me unseen (halt_frees pc has) (Marked false) (sym met) (λ e. absurd (halt_off pc has e)) j
-            (get_or s.words j 0) (kick_bare k p st.lawful.accounts);
+            (get_or s.words j 0) (bare k st.lawful.accounts (OfKick p) (halting, in_plan k s st id m.0 me p number.1));
       },
       refl,
     )
@@ -84,7 +81,7 @@ wake_plays k slots id m number x halting is_x asleep s both long me small =
     let p = number.0 in
     let st : Runs k s = both.runs in
     let j : ℕ = kick_at k p in
-    let bare = kick_bare k p st.lawful.accounts in
+    let bare = bare k st.lawful.accounts (OfKick p) (halting, in_plan k s st id m.0 me p number.1) in
     let n : ℕ = get_or s.words j 0 in
     dite (ℕ_discrete n 0)
     (λ none. (
@@ -100,11 +97,8 @@ wake_plays k slots id m number x halting is_x asleep s both long me small =
       tt,
       record {
         runs = on.wake_step k s st id m.0 me p number.1 halting x is_x asleep (woken m.0) refl refl s.homes;
-        keeps = alters k s both.keeps id m.0 (woken m.0) (set s.words j 0) me refl
-            (knows_same k both.keeps.journal m.0 (woken m.0) (both.keeps.knows id m.0 me) refl refl refl refl (λ l m is. is))
-            (get_or-set_other s.words j 0 0 0 (λ e. bare.roll (sym e)))
-            (get_or-set_other s.words j version_at 0 0 (λ e. bare.version (sym e)))
-            (λ a lt. get_or-set_other s.words j (balance_at k a) 0 0 (λ e. bare.balances a lt (sym e))) refl refl;
+        keeps = alters_at k s both.keeps id m.0 (woken m.0) j 0 bare me refl
+            (knows_same k both.keeps.journal m.0 (woken m.0) (both.keeps.knows id m.0 me) refl refl refl refl (λ l m is. is)) refl refl;
       },
       record { wakes = λ _. refl; stays = λ e. absurd (some e) },
     ))
@@ -153,10 +147,7 @@ module _ (k : Plan) (id : ℕ) (m : Me Slot View) (number : IsNumbered m.0) (v :
   kept_home y is true_ j n bare =
       let purse : fresh.SamePurse m.0.ledger (went m.0 y).ledger =
       fresh.turned_purse m.0.who.plan (own_number m.0.who.number) m.0.calls y m.0.ledger in
-      alters k s both.keeps id m.0 (went m.0 y) (set s.words j n) me purse.share (knows y is true_)
-      (get_or-set_other s.words j 0 n 0 (λ e. bare.roll (sym e)))
-      (get_or-set_other s.words j version_at n 0 (λ e. bare.version (sym e)))
-      (λ a lt. get_or-set_other s.words j (balance_at k a) n 0 (λ e. bare.balances a lt (sym e))) purse.out refl
+      alters_at k s both.keeps id m.0 (went m.0 y) j n bare me purse.share (knows y is true_) purse.out refl
 
 -- the row by which a kick is remembered
 pub kick_plays : (k : Plan) (slots id : ℕ) (m : Me Slot View) (number : IsNumbered m.0) (v : Verb) (lock : LockName)
@@ -177,7 +168,7 @@ kick_plays k slots id m number v lock halting acts home near s both long me smal
         runs = on.kick_step k s st id m.0 me p number.1 halting v lock ask go near (went m.0 (Marked found)) refl
             (calls_are k id m number v lock U5 acts s both me (Marked found)) s.homes;
         keeps = kept_home k id m number v lock U5 acts home acts.lock s both me (tt, tt) (Marked found) refl (λ e. cc e) j 1
-            (kick_bare k (node_of acts.frame.target).cpu st.lawful.accounts);
+            (bare k st.lawful.accounts (OfKick (node_of acts.frame.target).cpu) (halting, near));
       },
       record {
         found = found;

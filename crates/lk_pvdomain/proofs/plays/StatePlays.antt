@@ -1,11 +1,9 @@
 -- What the steps on states ask.
-use Rattle.std.proofs.Common.{◌≡◌, ◌≢◌, ◌⊎◌, inl, inr, ℕ, get_or, Option, Some, None, Bool, true, false}
+use Rattle.std.proofs.Common.{◌≡◌, ◌≢◌, ℕ, get_or, Option, Some, None, Bool, true, false}
 use Rattle.std.proofs.Common.{refl, sym, ap, ◌∙◌, subst, arith, eqb}
 use prog.Atomic.{either}
-use Rattle.std.specs.Prelude.{unwrap_or, if◌then◌else◌, is_some, ◌-◌, ◌==◌}
+use Rattle.std.specs.Prelude.{unwrap_or, if◌then◌else◌, ◌-◌, ◌==◌}
 use Rattle.atomic_table.specs.Table.{Me, keeps, Allows}
-use Rattle.lk_names.specs.History.{LockHistory}
-use Rattle.lk_names.specs.declared.names.Waiter.{Waiter}
 use Rattle.lk_names.specs.declared.names.LockName.{LockName}
 use Rattle.lk_word.specs.declared.spin_word.NodeName.{NodeName}
 use Rattle.lk_rows.specs.declared.parts.State.{State}
@@ -20,35 +18,27 @@ use Rattle.lk_rows.specs.rows.Pv.{is_running, is_halted}
 use Rattle.lk_rows.specs.TopRow.{target}
 use Rattle.lk_law.specs.Agree.{halts}
 use Rattle.lk_law.specs.Leads.{Stated}
-use Rattle.lk_law.specs.Phase.{has_node}
-use Rattle.lk_law.specs.Places.{phase_at, phase_if, phase_of}
-use Rattle.lk_law.specs.Premises.{Uses}
-use Rattle.lk_law.specs.SpinWorld.{IsSoundSpinWorld}
-use Rattle.lk_law.specs.World.{World}
-use Rattle.lk_law.proofs.common.Knows.{named_front_is_used}
-use Rattle.lk_law.proofs.common.Users.{is_node-own, node_is_ones}
 use Rattle.lk_domain.specs.Calls.{StandsOn, grip_led, Frees}
 use Rattle.lk_domain.specs.Keeps.{Slot}
 use Rattle.lk_domain.specs.Plays.{went}
-use Rattle.lk_domain.specs.Runs.{Runs, waiter}
+use Rattle.lk_domain.specs.Runs.{Runs}
 use Rattle.lk_domain.specs.Stand.{Stand}
 use Rattle.lk_domain.specs.Views.{IsNumbered}
-use Rattle.lk_domain.specs.Words.{state_at, state_number, IsNode}
+use Rattle.lk_domain.specs.Words.{OfState, state_at, state_number, IsNode}
 use Rattle.lk_domain.specs.declared.plan.Plan.{Plan}
 use Rattle.lk_domain.specs.declared.view.View.{View}
 use Rattle.lk_domain.proofs.queue.NodePlays.{acts', asks, calls_are, kept}
-use Rattle.lk_domain.proofs.queue.Relinks.{IsBare}
-use Rattle.lk_domain.proofs.queue.OnNodes.{IsUsed}
-use Rattle.lk_domain.proofs.rows.Lands as lands
+use Rattle.lk_domain.proofs.rows.Changes.{IsAt}
+use Rattle.lk_domain.proofs.words.Written.{bare}
 use Rattle.lk_domain.proofs.words.LockPlays.{MayFree}
 use Rattle.lk_pvdomain.specs.PvPlays.{SeesState, AtState}
 use Rattle.lk_pvdomain.specs.PvRows.{on_state, looks_state, stores_own, state_told, rouses, roused_to, state_node}
 use Rattle.lk_pvdomain.proofs.OnStates as on
-use Rattle.lk_pvdomain.proofs.OnStates.{OnState, state_stores}
+use Rattle.lk_pvdomain.proofs.OnStates.{state_stores}
 use Rattle.lk_pvdomain.proofs.Unmarked.{state_off}
 
 -- the row is on the state of its node
-pub on_its : (c : Pc) (f : Frame) → on_state c ≡ true → OnState (target c f) (state_node c f)
+pub on_its : (c : Pc) (f : Frame) → on_state c ≡ true → IsAt f (target c f) (OfState (state_node c f))
 on_its W2 f h = refl
 on_its W3 f h = refl
 on_its W5 f h = refl
@@ -106,31 +96,6 @@ roused_is K1 f Halted h = refl
 roused_is K1 f Hashed h = refl
 roused_is _ f y h = cc h
 
--- the own node of a waiter is used
-own_used : (m : World) (hs : LockName → LockHistory) (u : Waiter) (f : Frame) (c : Pc) → IsSoundSpinWorld m hs
-    → m.frame u ≡ Some f → f.place ≡ Some c
-    → ((b : Bool) (x y : NodeName) → has_node (phase_at c b x y) ≡ true) → IsUsed m (node_of f.me)
-own_used m hs u f c ok live place noded =
-    let has : has_node (phase_of f) ≡ true =
-    ap (λ (o : Option Pc). has_node (phase_if o (is_some f.me) (node_of f.prev) (node_of f.y))) place ∙ noded _ _ _ in
-    let uses : Uses m u (node_of f.me) = (f, live, is_node-own f.me ((ok.registers u f live).me has)) in
-    (u, uses, (node_is_ones m hs u u (node_of f.me) ok uses uses).1)
-
--- the node of a row that may store is used
-pub node_used : (m : World) (hs : LockName → LockHistory) (u : Waiter) (f : Frame) (c : Pc) → IsSoundSpinWorld m hs
-    → m.frame u ≡ Some f → f.place ≡ Some c → on_state c ≡ true → looks_state c ≡ false → IsUsed m (state_node c f)
-node_used m hs u f W3 ok live place h k = own_used m hs u f W3 ok live place (λ b x y. refl)
-node_used m hs u f W7 ok live place h k = own_used m hs u f W7 ok live place (λ b x y. refl)
-node_used m hs u f E2 ok live place h k = own_used m hs u f E2 ok live place (λ b x y. refl)
-node_used m hs u f E10 ok live place h k = own_used m hs u f E10 ok live place (λ b x y. refl)
-node_used m hs u f K1 ok live place h k =
-    let t = named_front_is_used m hs u f K1 ok live place refl in (t.0, t.1, t.2)
-node_used m hs u f _ ok live place h k = cc (h, k)
-
-pub state_bare : (k : Plan) (a : NodeName) → Rattle.std.proofs.Common.◌≤◌ (Rattle.lk_domain.specs.Plans.accounts_of k) 64 → IsBare k (state_at k a)
-state_bare k a few =
-    record { roll = λ e. omega (arith, e); version = λ e. omega (arith, e); balances = λ b lt e. omega (arith, e, lt, few) }
-
 -- a step on a state that makes the row of the newest call, where it writes what the row stores
 pub state_plays : (k : Plan) (slots id : ℕ) (m : Me Slot View) (number : IsNumbered m.0) (v : Verb) (lock : LockName) (pc : Pc)
     → halts k.mode ≡ true → (acts : StandsOn m.0.calls v lock pc) → on_state pc ≡ true
@@ -147,33 +112,21 @@ state_plays k slots id m number v lock pc halting acts has near fx writes s both
     let found : State = on.found k s st id m.0 me p number.1 v lock pc ask go a near halting over in
     let is : get_or s.words (state_at k a) 0 ≡ state_number found =
     on.found_is k s st id m.0 me p number.1 v lock pc ask go a near halting over in
-    let world = on.m k s st id m.0 me p number.1 v lock pc ask go a near halting over in
     let unseen = on.unseen k s st id m.0 me p number.1 v lock pc ask go a near halting over in
-    let at = on.at k s st id m.0 me p number.1 v lock pc ask go a near halting over in
-    let live = lands.live k s st id m.0 me p number.1 v lock pc ask go unseen in
-    let safe : on.IsSafe k s st id m.0 me p number.1 v lock pc ask go a near halting over =
-    elim (cases_of (looks_state pc)) [
-      | inl looks ↦ inl (looks_none pc acts.frame found looks)
-      | inr off ↦ inr (node_used world _ (waiter p acts.frame.ctx) acts.frame pc at.acted.sound.spins live acts.place has off)
-    ] in
     let n : ℕ = get_or s.words (state_at k a) 0 in (
       went m.0 (Stated found),
       keeps,
       tt,
       record {
         runs = on.state_step k s st id m.0 me p number.1 v lock pc ask go a near halting over (fx n)
-            (ap fx is ∙ writes found) safe (went m.0 (Stated found)) refl
+            (ap fx is ∙ writes found) (went m.0 (Stated found)) refl
             (calls_are k id m number v lock pc acts s both me (Stated found)) s.homes;
         keeps = kept k id m number v lock pc acts s both me unseen (state_frees pc has) (Stated found)
             (sym (on.met_is k s st id m.0 me p number.1 v lock pc ask go a near halting over)) (λ e. absurd (state_off pc has e)) (state_at k a) (fx n)
-            (state_bare k a st.lawful.accounts);
+            (bare k st.lawful.accounts (OfState a) (halting, near));
       },
       record { found = found; word = is; seat = refl },
     )
-  where
-    cases_of : (b : Bool) → (b ≡ true) ⊎ (b ≡ false)
-    cases_of true = inl refl
-    cases_of false = inr refl
 
 -- a row of a kind is one on a state
 looks_over : (c : Pc) → looks_state c ≡ true → on_state c ≡ true
