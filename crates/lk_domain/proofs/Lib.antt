@@ -9,7 +9,7 @@ pub mod Turned
 pub mod Outs
 pub mod Freed
 pub mod Holds
-pub mod Paths
+pub mod Standing
 pub mod Ways
 pub mod journals
 pub mod Seating

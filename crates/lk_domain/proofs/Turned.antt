@@ -54,15 +54,6 @@ is_taking Write = true
 is_taking TryWrite = true
 is_taking _ = false
 
-pub verb_self : (v : Verb) → is_taking v ≡ true → is_verb v v ≡ true
-verb_self Lock h = refl
-verb_self Try h = refl
-verb_self Read h = refl
-verb_self TryRead h = refl
-verb_self Write h = refl
-verb_self TryWrite h = refl
-verb_self _ h = cc h
-
 verb_unlock : (v : Verb) → is_taking v ≡ true → is_unlocking v ≡ false
 verb_unlock Lock h = refl
 verb_unlock Try h = refl

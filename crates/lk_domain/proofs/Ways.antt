@@ -22,6 +22,7 @@ use Rattle.lk_rows.specs.rows.Spin.{is_free}
 use Rattle.lk_rows.specs.TopRow.{target}
 use Rattle.lk_law.specs.Agree.{halts}
 use Rattle.lk_law.specs.Leads.{Met, Word}
+use Rattle.lk_law.specs.Sound.{takes_wait}
 use Rattle.lk_domain.specs.Calls.{terms_of, mark, read_at, Running, running, Calls, StandsAt, acting, begin, lock_name}
 use Rattle.lk_domain.specs.Calls.{Outlook}
 use Rattle.lk_law.specs.Premises.{IsThen}
@@ -29,18 +30,20 @@ use Rattle.lk_domain.specs.Calls.{sight_of, row_of, Unchanged, Takes, Frees, hol
 use Rattle.lk_domain.specs.Keeps.{Slot}
 use Rattle.lk_domain.specs.Ledgers.{turned}
 use Rattle.lk_domain.specs.Plans.{kind_at}
-use Rattle.lk_domain.specs.Paths.{next_frame, row_grip, IsAt, HasTaken, HasMissed, HasFreed, Any}
+use Rattle.lk_domain.specs.Paths.{next_frame, row_grip, HasTaken, HasMissed, HasFreed, Any}
 use Rattle.lk_domain.specs.Plays.{Acts, MadeBy, turned_on, turned_of, turned_at}
 use Rattle.lk_domain.specs.Rows.{frees_by}
+use Rattle.lk_domain.specs.Standing.{IsAt}
 use Rattle.lk_domain.specs.Views.{own_number}
 use Rattle.lk_domain.specs.declared.plan.Plan.{Plan}
 use Rattle.lk_domain.specs.declared.view.View.{View}
+use Rattle.lk_domain.proofs.Acting.{acting_is, acts_on, begins_on}
 use Rattle.lk_domain.proofs.turns.Courses as rows
 use Rattle.lk_domain.proofs.Freed as freed
 use Rattle.lk_domain.proofs.Freed.{not_on}
 use Rattle.lk_domain.proofs.rows.Grips.{IsOwn, own_lock}
 use Rattle.lk_domain.proofs.words.Numbers.{free_test}
-use Rattle.lk_domain.proofs.Paths as path
+use Rattle.lk_domain.proofs.Standing as path
 use Rattle.lk_domain.proofs.Turned.{is_taking}
 
 -- the seat of a processor of a plan
@@ -68,12 +71,12 @@ pub record Missed (k : Plan) (p : ℕ) (v : Verb) (l : ℕ) (old : Calls) (m n :
 module _ (k : Plan) (p : ℕ) (v : Verb) (l : ℕ) (pl : Pc) (old : Calls) (m n : Me Slot View) (met : ℕ)
     (seat : IsSeat k p m.0) (made : MadeBy v l m met n) (c : Calls)
     (acts : acting k.mode m.0.calls v l ≡ c) (at : IsAt (terms_of k) p v l pl Any old c)
-    (unseen : IsOwn (target pl at.frame)) where
+    (unseen : IsOwn (target pl at.on.frame)) where
   abbrev x : Met
   x = Word made.found
 
   abbrev f : Frame
-  f = at.frame
+  f = at.on.frame
 
   abbrev z : Outlook
   z = sight_of (terms_of k) p c.runs
@@ -85,48 +88,44 @@ module _ (k : Plan) (p : ℕ) (v : Verb) (l : ℕ) (pl : Pc) (old : Calls) (m n 
       ∙ ap (λ d. row_of (terms_of k) p d x) acts)
 
   turns : n.0.ledger
-      ≡ turned m.0.ledger (lock_name l) (row_grip k.mode p z pl f x) (at.trail ++ mark pl x (read_at pl z) ∷ [])
+      ≡ turned m.0.ledger (lock_name l) (row_grip k.mode p z pl f x) (at.on.trail ++ mark pl x (read_at pl z) ∷ [])
   turns =
       ap (λ (y : Me Slot View). y.0.ledger) made.seat
       ∙ ((λ i. turned_of (terms_of (seat.plan i)) (own_number (seat.number i)) (acting (seat.plan i).mode m.0.calls v l) x m.0.ledger)
       ∙ (ap (λ (d : Calls). turned_of (terms_of k) p d x m.0.ledger) acts
-      ∙ (ap (λ (rs : List Running). turned_on k.mode p z rs x m.0.ledger) at.frames
-      ∙ (ap (λ q. turned_at k.mode p z (running v f at.trail) x m.0.ledger q) at.place
-      ∙ ap (λ (j : LockName). turned m.0.ledger j (row_grip k.mode p z pl f x) (at.trail ++ mark pl x (read_at pl z) ∷ []))
-      (own_lock (target pl f) f unseen ∙ at.lock)))))
+      ∙ (ap (λ (rs : List Running). turned_on k.mode p z rs x m.0.ledger) at.on.frames
+      ∙ (ap (λ q. turned_at k.mode p z (running v f at.on.trail) x m.0.ledger q) at.on.place
+      ∙ ap (λ (j : LockName). turned m.0.ledger j (row_grip k.mode p z pl f x) (at.on.trail ++ mark pl x (read_at pl z) ∷ []))
+      (own_lock (target pl f) f unseen ∙ at.on.lock)))))
 
   still_turned : row_grip k.mode p z pl f x ≡ Unchanged → n.0.ledger ≡ m.0.ledger
-  still_turned grip = turns ∙ ap (λ y. turned m.0.ledger (lock_name l) y (at.trail ++ mark pl x (read_at pl z) ∷ [])) grip
+  still_turned grip = turns ∙ ap (λ y. turned m.0.ledger (lock_name l) y (at.on.trail ++ mark pl x (read_at pl z) ∷ [])) grip
 
   pub moves : (d : Pc) → (next_frame k.mode p z pl f x).place ≡ Some d
       → row_grip k.mode p z pl f x ≡ Unchanged → (next_frame k.mode p z pl f x).lock ≡ f.lock
       → Moved k p v l d old m.0 n.0
   moves d place grip lock =
       record {
-        at = subst (IsAt (terms_of k) p v l d Any old) (sym calls) (path.goes at x d Any place grip lock tt);
+        at = path.moves at x calls d Any place grip lock tt;
         ledger = still_turned grip;
       }
 
   pub takes : (next_frame k.mode p z pl f x).place ≡ None → row_grip k.mode p z pl f x ≡ Takes Spins
       → Took k p v l old m.0 n.0
   takes place grip =
-      let t = path.takes at x Spins place grip (own_lock (target pl f) f unseen) in
       record {
-        taken = subst (HasTaken (terms_of k) p v l Spins old) (sym calls) t;
-        once = ap (λ (d : Calls). d.taken) calls ∙ path.taken_once at x Spins grip;
+        taken = path.takes at.on x calls Spins place grip (own_lock (target pl f) f unseen ∙ at.on.lock);
+        once = path.count_after at.on x calls (Takes Spins) grip ∙ ap (λ n. n + 1) at.taken;
         ledger = turns
-            ∙ (λ i. turned m.0.ledger (lock_name l) (grip i) (at.trail ++ mark pl x (read_at pl z) ∷ []))
-            ∙ ap (λ ms. turned m.0.ledger (lock_name l) (Takes Spins) ms) (last place);
+            ∙ (λ i. turned m.0.ledger (lock_name l) (grip i) (at.on.trail ++ mark pl x (read_at pl z) ∷ []))
+            ∙ ap (λ ms. turned m.0.ledger (lock_name l) (Takes Spins) ms) (sym (path.last_is at.on x calls place));
       }
-    where
-      last : (next_frame k.mode p z pl f x).place ≡ None → at.trail ++ mark pl x (read_at pl z) ∷ [] ≡ n.0.calls.last
-      last place = sym (ap (λ (d : Calls). d.last) calls ∙ path.last_is at x place)
 
   pub misses : (next_frame k.mode p z pl f x).place ≡ None → row_grip k.mode p z pl f x ≡ Unchanged
       → Missed k p v l old m.0 n.0
   misses place grip =
       record {
-        missed = subst (HasMissed (terms_of k) p v l old) (sym calls) (path.misses at x place grip);
+        missed = path.misses at.on x calls at.taken place grip;
         ledger = still_turned grip;
       }
 
@@ -157,10 +156,10 @@ not_wait f plain e = absurd (let z : true ≡ false = sym e ∙ plain in cc z)
 
 -- the rows of a call, by the number that the step met
 module _ (k : Plan) (p : ℕ) (l : ℕ) (m n : Me Slot View) (met : ℕ) (seat : IsSeat k p m.0) where
-  module _ (v : Verb) (t : is_taking v ≡ true) (none : waits_in m.0.calls.frames l ≡ false)
+  module _ (v : Verb) (t : is_taking v ≡ true) (no : takes_wait v ≡ false) (none : waits_in m.0.calls.frames l ≡ false)
       (made : MadeBy v l m met n) where
     abbrev first : IsAt (terms_of k) p v l (first_place k.mode v) Any m.0.calls (begin k.mode m.0.calls v l)
-    first = path.starts (terms_of k) p v l m.0.calls t
+    first = path.starts (terms_of k) p v l m.0.calls t (path.never_waits v no)
 
     begun_is : acting k.mode m.0.calls v l ≡ begin k.mode m.0.calls v l
     begun_is = path.acts_begin k.mode m.0.calls v l none
@@ -169,43 +168,43 @@ module _ (k : Plan) (p : ℕ) (l : ℕ) (m n : Me Slot View) (met : ℕ) (seat :
   module _ (none : waits_in m.0.calls.frames l ≡ false) (made : MadeBy Lock l m met n) where
     pub F1_takes : eqb met 0 ≡ true → Took k p Lock l m.0.calls m.0 n.0
     F1_takes h =
-        let at = first Lock refl none made in
-        let plain = ap (λ (z : LockName). z.wait) at.lock in
-        let o = rows.takes_free k.mode p {z = sight_of (terms_of k) p None} at.frame false plain (not_wait at.frame plain) made.found Lock F1 refl (is_zero _ met made.found made.word h) in
-        takes k p Lock l F1 m.0.calls m n met seat made (begin k.mode m.0.calls Lock l) (begun_is Lock refl none made) at tt o.place.0 (o.grip plain)
+        let at = first Lock refl refl none made in
+        let plain = ap (λ (z : LockName). z.wait) at.on.lock in
+        let o = rows.takes_free k.mode p {z = sight_of (terms_of k) p None} at.on.frame false plain (not_wait at.on.frame plain) made.found Lock F1 refl (is_zero _ met made.found made.word h) in
+        takes k p Lock l F1 m.0.calls m n met seat made (begin k.mode m.0.calls Lock l) (begun_is Lock refl refl none made) at tt o.place.0 (o.grip plain)
 
   -- T1
   module _ (none : waits_in m.0.calls.frames l ≡ false) (made : MadeBy Try l m met n) where
     pub T1_sees : eqb met 0 ≡ true → Moved k p Try l T2 m.0.calls m.0 n.0
     T1_sees h =
-        let at = first Try refl none made in
+        let at = first Try refl refl none made in
         let e = is_zero _ met made.found made.word h in
-        moves k p Try l T1 m.0.calls m n met seat made (begin k.mode m.0.calls Try l) (begun_is Try refl none made) at tt T2
-        (T1_free k.mode p (sight_of (terms_of k) p None) at.frame made.found (ap (λ (z : LockName). z.wait) at.lock) e) (T1_grip k.mode p (sight_of (terms_of k) p None) at.frame made.found (ap (λ (z : LockName). z.wait) at.lock) e)
-        (T1_lock k.mode p (sight_of (terms_of k) p None) at.frame made.found (ap (λ (z : LockName). z.wait) at.lock) e)
+        moves k p Try l T1 m.0.calls m n met seat made (begin k.mode m.0.calls Try l) (begun_is Try refl refl none made) at tt T2
+        (T1_free k.mode p (sight_of (terms_of k) p None) at.on.frame made.found (ap (λ (z : LockName). z.wait) at.on.lock) e) (T1_grip k.mode p (sight_of (terms_of k) p None) at.on.frame made.found (ap (λ (z : LockName). z.wait) at.on.lock) e)
+        (T1_lock k.mode p (sight_of (terms_of k) p None) at.on.frame made.found (ap (λ (z : LockName). z.wait) at.on.lock) e)
 
     pub T1_misses : eqb met 0 ≡ false → Missed k p Try l m.0.calls m.0 n.0
     T1_misses h =
-        let at = first Try refl none made in
-        let o = rows.looks_held k.mode p {z = sight_of (terms_of k) p None} at.frame false (ap (λ (z : LockName). z.wait) at.lock) (not_wait at.frame (ap (λ (z : LockName). z.wait) at.lock)) made.found Try T1 refl (not_zero _ met made.found made.word h) in
-        misses k p Try l T1 m.0.calls m n met seat made (begin k.mode m.0.calls Try l) (begun_is Try refl none made) at tt o.place.0 (o.grip (ap (λ (z : LockName). z.wait) at.lock))
+        let at = first Try refl refl none made in
+        let o = rows.looks_held k.mode p {z = sight_of (terms_of k) p None} at.on.frame false (ap (λ (z : LockName). z.wait) at.on.lock) (not_wait at.on.frame (ap (λ (z : LockName). z.wait) at.on.lock)) made.found Try T1 refl (not_zero _ met made.found made.word h) in
+        misses k p Try l T1 m.0.calls m n met seat made (begin k.mode m.0.calls Try l) (begun_is Try refl refl none made) at tt o.place.0 (o.grip (ap (λ (z : LockName). z.wait) at.on.lock))
 
   -- the rows of a call that goes on
   module _ (old : Calls) where
-    plain : {v : Verb} {pl : Pc} (at : IsAt (terms_of k) p v l pl Any old m.0.calls) → at.frame.lock.wait ≡ false
-    plain at = ap (λ (z : LockName). z.wait) at.lock
+    plain : {v : Verb} {pl : Pc} (at : IsAt (terms_of k) p v l pl Any old m.0.calls) → at.on.frame.lock.wait ≡ false
+    plain at = ap (λ (z : LockName). z.wait) at.on.lock
 
     -- T2
     module _ (made : MadeBy Try l m met n) (at : IsAt (terms_of k) p Try l T2 Any old m.0.calls) where
       pub T2_takes : eqb met 0 ≡ true → Took k p Try l old m.0 n.0
       T2_takes h =
-          let o = rows.takes_free k.mode p {z = sight_of (terms_of k) p m.0.calls.runs} at.frame false (plain at) (not_wait at.frame (plain at)) made.found Try T2 refl (is_zero _ met made.found made.word h) in
-          takes k p Try l T2 old m n met seat made m.0.calls (path.acts at refl) at tt o.place.0 (o.grip (ap (λ (z : LockName). z.wait) at.lock))
+          let o = rows.takes_free k.mode p {z = sight_of (terms_of k) p m.0.calls.runs} at.on.frame false (plain at) (not_wait at.on.frame (plain at)) made.found Try T2 refl (is_zero _ met made.found made.word h) in
+          takes k p Try l T2 old m n met seat made m.0.calls (acting_is m.0.calls Try (lock_name l) T2 (path.stands at.on) k.mode) at tt o.place.0 (o.grip (ap (λ (z : LockName). z.wait) at.on.lock))
 
       pub T2_misses : eqb met 0 ≡ false → Missed k p Try l old m.0 n.0
       T2_misses h =
-          let o = rows.takes_held k.mode p {z = sight_of (terms_of k) p m.0.calls.runs} at.frame false (plain at) (not_wait at.frame (plain at)) made.found Try T2 refl (not_zero _ met made.found made.word h) in
-          misses k p Try l T2 old m n met seat made m.0.calls (path.acts at refl) at tt o.place.0 (o.grip (ap (λ (z : LockName). z.wait) at.lock))
+          let o = rows.takes_held k.mode p {z = sight_of (terms_of k) p m.0.calls.runs} at.on.frame false (plain at) (not_wait at.on.frame (plain at)) made.found Try T2 refl (not_zero _ met made.found made.word h) in
+          misses k p Try l T2 old m n met seat made m.0.calls (acting_is m.0.calls Try (lock_name l) T2 (path.stands at.on) k.mode) at tt o.place.0 (o.grip (ap (λ (z : LockName). z.wait) at.on.lock))
 
 -- what the step calls ask
 
@@ -219,20 +218,19 @@ acts_first kind k p v l m seat t none free few fits is =
       is = is;
       stands = subst (λ (c : Calls). StandsAt c v l (first_place k.mode v))
           (sym (ap (λ (j : Plan). acting j.mode m.calls v l) seat.plan ∙ path.acts_begin k.mode m.calls v l none))
-          (path.stands (path.starts (terms_of k) p v l m.calls t));
+          (record { frame = begun k.mode (length m.calls.frames) v l; trail = []; rest = m.calls.frames; is = refl; place = refl; lock = refl });
       begins = λ _. (few, path.may_begin m.calls v l t free none, ap (λ (j : Plan). kind_at j l) seat.plan ∙ fits, λ on. absurd (grind (arith, ap (λ (j : Plan). halts j.mode) seat.plan, seat.awake, on)));
     }
 
 -- one that goes on
 pub acts_next : (kind : Pc → Bool) (k : Plan) (p : ℕ) (v : Verb) (l : ℕ) (pl : Pc) (old : Calls) (m : View)
-    → IsSeat k p m → is_taking v ≡ true → IsAt (terms_of k) p v l pl Any old m.calls → kind pl ≡ true → Acts kind m v l
-acts_next kind k p v l pl old m seat t at is =
+    → IsAt (terms_of k) p v l pl Any old m.calls → kind pl ≡ true → Acts kind m v l
+acts_next kind k p v l pl old m at is =
     record {
       row = pl;
       is = is;
-      stands = subst (λ (c : Calls). StandsAt c v l pl)
-          (sym (ap (λ (j : Plan). acting j.mode m.calls v l) seat.plan ∙ path.acts at t)) (path.stands at);
-      begins = path.no_begin at m.who.plan t;
+      stands = acts_on m.calls v (lock_name l) pl (path.stands at.on) m.who.plan.mode;
+      begins = begins_on m.calls v (lock_name l) pl (path.stands at.on) m.who.plan;
     }
 
 -- a release begins and ends in one step

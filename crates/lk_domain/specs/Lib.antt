@@ -22,6 +22,7 @@ pub mod RwPlays
 pub mod RwSeats
 pub mod Ends
 pub mod Paths
+pub mod Standing
 pub mod Waits
 pub mod Uses
 pub mod RwUses

@@ -8,11 +8,12 @@ use Rattle.lk_rows.specs.declared.parts.Frame.{Frame}
 use Rattle.lk_rows.specs.declared.parts.Pc.{Pc}
 use Rattle.lk_rows.specs.declared.parts.Pc.TheVariants.{U1}
 use Rattle.lk_rows.specs.declared.setup.Verb.{Verb}
-use Rattle.lk_domain.specs.Calls.{Outlook}
+use Rattle.lk_rows.specs.Acts.{stands_halting, after_halt}
 use Rattle.lk_rows.specs.TopRow.{target}
+use Rattle.lk_law.specs.Agree.{halts}
 use Rattle.lk_law.specs.Leads.{Met, Word}
 use Rattle.lk_law.specs.Steps.{led}
-use Rattle.lk_domain.specs.Calls.{Mark, mark, running, hold, Calls, Grip, Unchanged, Takes}
+use Rattle.lk_domain.specs.Calls.{Outlook, Mark, mark, hold, Calls, Grip, Unchanged, Takes}
 use Rattle.lk_domain.specs.Calls.{grip_of, course, read_at, Terms, sight_of}
 use Rattle.lk_domain.specs.Calls.{begun, lock_name, free_of, moved_to, holds_in, waits_in}
 use Rattle.lk_domain.specs.Ledgers.{Ledger, Look, turned}
@@ -26,7 +27,8 @@ abbrev pub row_grip : Mode → ℕ → Outlook → Pc → Frame → Met → Grip
 row_grip mode p z c f x = grip_of (target c f) (course mode p z c f x)
 
 -- The rows of the list lead from the frame a to the frame at the end, a head that chooses the next
--- by the count of handoffs that its mark has.
+-- by the count of handoffs that its mark has. Where processors halt, and this one had halted, the
+-- frame has gone on when the halt ended, which is no row.
 pub data Walk (t : Terms) (p : ℕ) (a : Frame) : List Mark → Frame → Type 0 where
   still : Walk t p a [] a
   onward : (ks : List Mark) (f : Frame) (c d : Pc) (x : Met) (r : Option ℕ)
@@ -34,9 +36,24 @@ pub data Walk (t : Terms) (p : ℕ) (a : Frame) : List Mark → Frame → Type 0
       → (next_frame t.mode p (sight_of t p r) c f x).place ≡ Some d
       → Walk t p a (ks ++ mark c x (read_at c (sight_of t p r)) ∷ [])
       (next_frame t.mode p (sight_of t p r) c f x)
+  awoken : (ks : List Mark) (f : Frame) → halts t.mode ≡ true → Walk t p a ks f
+      → stands_halting f.place ≡ true → Walk t p a ks (record f { place = after_halt f.place })
 
--- the rows of the trail lead from the frame a to a row that ends the call, and does this to the
--- holds
+-- the rows of the trail lead from the frame a to one that does this to the holds; the call may go on
+-- from there
+pub record PathTo (t : Terms) (p : ℕ) (a : Frame) (trail : List Mark) (grip : Grip)
+    : Type 0 where
+  pub before : List Mark
+  pub frame : Frame
+  pub row : Pc
+  pub met : Met
+  pub runs : Option ℕ
+  pub walk : Walk t p a before frame
+  pub place : frame.place ≡ Some row
+  pub is : trail ≡ before ++ mark row met (read_at row (sight_of t p runs)) ∷ []
+  pub grips : row_grip t.mode p (sight_of t p runs) row frame met ≡ grip
+
+-- and this row ends the call
 pub record Path (t : Terms) (p : ℕ) (a : Frame) (trail : List Mark) (grip : Grip) : Type 0 where
   pub before : List Mark
   pub frame : Frame
@@ -48,21 +65,6 @@ pub record Path (t : Terms) (p : ℕ) (a : Frame) (trail : List Mark) (grip : Gr
   pub is : trail ≡ before ++ mark row met (read_at row (sight_of t p runs)) ∷ []
   pub ends : (next_frame t.mode p (sight_of t p runs) row frame met).place ≡ None
   pub grips : row_grip t.mode p (sight_of t p runs) row frame met ≡ grip
-
--- The call v on l of the processor p, which began where its calls were the old ones, stands at the
--- row c; its frame meets the condition, and no lock was taken since it began.
-pub record IsAt (t : Terms) (p : ℕ) (v : Verb) (l : ℕ) (c : Pc) (condition : Frame → Type 0)
-    (old new : Calls) : Type 0 where
-  pub frame : Frame
-  pub trail : List Mark
-  pub walk : Walk t p (begun t.mode (length old.frames) v l) trail frame
-  pub frames : new.frames ≡ running v frame trail ∷ old.frames
-  pub holds : new.holds ≡ old.holds
-  pub taken : new.taken ≡ old.taken
-  pub place : frame.place ≡ Some c
-  pub lock : frame.lock ≡ lock_name l
-  pub ctx : frame.ctx ≡ length old.frames
-  pub has : condition frame
 
 abbrev pub Any : Frame → Type 0
 Any f = Unit {0}

@@ -7,8 +7,9 @@ use Rattle.lk_rows.specs.declared.setup.Verb.{Verb}
 use Rattle.lk_rows.specs.declared.setup.Verb.TheVariants.{Lock}
 use Rattle.lk_domain.specs.Calls.{terms_of, Calls, Takes, Frees, holds_in, waits_in, lock_name}
 use Rattle.lk_domain.specs.Ledgers.{turned}
-use Rattle.lk_domain.specs.Paths.{IsAt, HasTaken, HasMissed, HasFreed, Any}
+use Rattle.lk_domain.specs.Paths.{HasTaken, HasMissed, HasFreed, Any}
 use Rattle.lk_domain.specs.Seats.{calls_of, ledger_of}
+use Rattle.lk_domain.specs.Standing.{IsAt}
 use Rattle.lk_domain.specs.declared.cpu.Cpu.{Cpu}
 use Rattle.lk_domain.specs.declared.domain.Domain.{Domain}
 

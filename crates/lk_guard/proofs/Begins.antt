@@ -4,16 +4,16 @@ use Rattle.lk_names.specs.declared.holder.Manner.{Manner}
 use Rattle.lk_names.specs.declared.holder.Manner.TheVariants.{Spins}
 use Rattle.lk_rows.specs.declared.setup.Verb.{Verb}
 use Rattle.lk_rows.specs.declared.setup.Verb.TheVariants.{Lock}
-use Rattle.lk_law.specs.Agree.{halts}
-use Rattle.lk_domain.specs.Calls.{terms_of, begun, hold, lock_name}
+use Rattle.lk_law.specs.Sound.{takes_wait}
+use Rattle.lk_domain.specs.Calls.{Takes, terms_of, begun, hold, lock_name}
 use Rattle.lk_domain.specs.Ledgers.{Ledger, opened}
-use Rattle.lk_domain.specs.Paths.{HasTaken, HasLooked}
+use Rattle.lk_domain.specs.Paths.{PathTo, Path, HasTaken, HasLooked}
 use Rattle.lk_domain.specs.Plans.{cpus_of}
 use Rattle.lk_domain.specs.Seats.{IsOf, IsSame, calls_of, ledger_of}
 use Rattle.lk_domain.specs.Who.{Who}
 use Rattle.lk_domain.specs.declared.cpu.Cpu.{Cpu}
 use Rattle.lk_domain.specs.declared.domain.Domain.{Domain}
-use Rattle.lk_run.specs.Entering.{PathTo}
+use Rattle.lk_domain.proofs.Standing.{path_upto}
 use Rattle.lk_run.specs.Phases.{CameIn, starting}
 use Rattle.lk_run.specs.Polls.{HasStayed, IsPolled}
 use Rattle.lk_run.proofs.Polls.{stays_more}
@@ -21,19 +21,16 @@ use Rattle.lk_guard.specs.Guards.{guard_in}
 use Rattle.lk_guard.specs.Holding.{HasBegun}
 use Rattle.lk_guard.specs.Idle.{IsIdle, Stays, crew_of}
 
-module _ (d : Domain) (a b : Cpu) (before after : Option ℕ) (idle : IsIdle a) (awake : halts d.plan.mode ≡ false) where
-  -- no processor of the domain halts
-  asleep : halts d.plan.mode ≡ true → ⊥
-  asleep on = let no : true ≡ false = sym on ∙ awake in cc no
-
+module _ (d : Domain) (a b : Cpu) (before after : Option ℕ) (idle : IsIdle a) where
   -- of a spinlock
   pub lock_begins : HasTaken (terms_of d.plan) b.number Lock 0 Spins (calls_of a) (calls_of b)
       → HasLooked 0 Spins (calls_of a) (calls_of b).last (ledger_of a) (ledger_of b)
       → IsPolled (calls_of b).last before after
       → HasBegun (guard_in d.plan) Lock Spins a b before after
   lock_begins taken look polled =
-      let path = taken.path in
       let trail = (calls_of b).last in
+      let path : Path (terms_of d.plan) b.number (begun d.plan.mode 0 Lock 0) trail (Takes Spins) =
+      subst (λ (k : ℕ). Path (terms_of d.plan) b.number (begun d.plan.mode k Lock 0) trail (Takes Spins)) (ap length idle.frames) taken.path in
       record {
         trail = trail;
         holding = record {
@@ -43,27 +40,17 @@ module _ (d : Domain) (a b : Cpu) (before after : Option ℕ) (idle : IsIdle a) 
         };
         taken = record {
           manner = refl;
-          path = λ _. subst (λ (k : ℕ). PathTo (terms_of d.plan) b.number (begun d.plan.mode k Lock 0) trail Spins) (ap length idle.frames) (record {
-            before = path.before;
-            frame = path.frame;
-            row = path.row;
-            met = path.met;
-            runs = path.runs;
-            walk = path.walk;
-            place = path.place;
-            is = path.is;
-            grips = path.grips;
-          });
-          halting = λ on. absurd (asleep on);
+          path = path_upto path;
+          ends = λ _. path;
         };
         ledger = look.now ∙ ap (λ (g : Ledger). opened g Spins trail) (look.passes.still refl);
         polled = polled;
       }
 
   -- of a reader-writer lock: its trail is the rows up to the one that took it
-  pub entry_begins : {nests : Bool} (v : Verb) (m : Manner) → CameIn d v 0 m (starting a nests before) b after
+  pub entry_begins : {nests : Bool} (v : Verb) (m : Manner) → takes_wait v ≡ true → CameIn d v 0 m (starting a nests before) b after
       → HasBegun (guard_in d.plan) v m a b before after
-  entry_begins v m came =
+  entry_begins v m waits came =
       let entered = came.entered in
       record {
         trail = came.upto;
@@ -74,8 +61,8 @@ module _ (d : Domain) (a b : Cpu) (before after : Option ℕ) (idle : IsIdle a) 
         };
         taken = record {
           manner = refl;
-          path = λ _. subst (λ (k : ℕ). PathTo (terms_of d.plan) b.number (begun d.plan.mode k v 0) came.upto m) (ap length idle.frames) entered.takes;
-          halting = λ on. absurd (asleep on);
+          path = subst (λ (k : ℕ). PathTo (terms_of d.plan) b.number (begun d.plan.mode k v 0) came.upto (Takes m)) (ap length idle.frames) entered.takes;
+          ends = λ off. let e : true ≡ false = sym waits ∙ off in absurd (cc e);
         };
         ledger = came.look.now ∙ ap (λ (g : Ledger). opened g m came.upto) (came.look.passes.still refl);
         polled = record {

@@ -149,7 +149,7 @@ module _ (h : Guard) (p v : ℕ) (job : Job) (reply : Reply) (g0 g1 g2 : Ledger)
         record {
           look = look;
           read = record {
-            taken = record { manner = taken.manner; path = taken.path; halting = taken.halting };
+            taken = record { manner = taken.manner; path = taken.path; ends = taken.ends };
             version = refl;
             answers = looks.answers;
             seen = subst (λ (g : Ledger). g.seen ≤ v) begins looks.seen;

@@ -1,5 +1,5 @@
 -- A hold of a processor that may halt begins a look. Nothing polls there, so nothing is counted.
-use Rattle.std.proofs.Common.{◌≡◌, ℕ, zero, suc, List, ◌∷◌, None, true, false, refl, sym, ap, ◌∙◌, subst}
+use Rattle.std.proofs.Common.{◌≡◌, ℕ, zero, suc, List, ◌∷◌, None, refl, sym, ap, ◌∙◌, subst}
 use Rattle.lk_names.specs.declared.holder.Manner.TheVariants.{Spins}
 use Rattle.lk_names.specs.declared.names.Kind.{Kind}
 use Rattle.lk_names.specs.declared.names.Kind.TheVariants.{Spin}
@@ -7,6 +7,7 @@ use Rattle.lk_rows.specs.declared.setup.Verb.TheVariants.{Lock}
 use Rattle.lk_domain.specs.Calls.{Hold, Mark, hold, lock_name}
 use Rattle.lk_domain.specs.Ledgers.{Ledger, new_look, opened}
 use Rattle.lk_domain.specs.Plans.{kind_at}
+use Rattle.lk_domain.proofs.Standing.{path_upto}
 use Rattle.lk_guard.specs.Guards.{IsTaken, IsToRead, guard_in, reads_as, reads_by}
 use Rattle.lk_guard.specs.Holding.{Begins}
 use Rattle.lk_guard.specs.Idle.{IsFree, Stays, pv_crew_of}
@@ -38,13 +39,13 @@ module _ (d : PvDomain) where
         trail = (calls_of b).last;
         holding = record {
           nth = (calls_of b).taken;
-          frames = took.over.frames;
+          frames = took.frames;
           holds = took.holds ∙ ap (λ (hs : List Hold). hold 0 (lock_name 0) Spins (calls_of b).taken ∷ hs) free.nothing.holds;
         };
         taken = record {
           manner = refl;
-          path = λ awake. let no : true ≡ false = sym d.halting ∙ awake in cc no;
-          halting = λ on. took.path;
+          path = path_upto took.path;
+          ends = λ _. took.path;
         };
         ledger = took.ledger;
         polled = unpolled (calls_of b).last;

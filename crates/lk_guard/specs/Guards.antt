@@ -1,18 +1,17 @@
 -- How a ledger is guarded by lock 0.
-use Rattle.std.specs.Prelude.{◌≡◌, ℕ, List, [], None, true, false}
+use Rattle.std.specs.Prelude.{◌≡◌, ℕ, List, [], None, false}
 use Rattle.lk_names.specs.declared.holder.Manner.{Manner}
 use Rattle.lk_names.specs.declared.holder.Manner.TheVariants.{Spins, Reads, Writes}
 use Rattle.lk_names.specs.declared.names.Kind.{Kind}
 use Rattle.lk_names.specs.declared.names.Kind.TheVariants.{Spin, Rw}
 use Rattle.lk_rows.specs.declared.setup.Verb.{Verb}
 use Rattle.lk_rows.specs.declared.setup.Verb.TheVariants.{Lock, Read, Write}
-use Rattle.lk_law.specs.Agree.{halts}
+use Rattle.lk_law.specs.Sound.{takes_wait}
 use Rattle.lk_domain.specs.Calls.{Terms, Takes, begun, terms_of}
 use Rattle.lk_domain.specs.Ledgers.{Look}
+use Rattle.lk_domain.specs.Paths.{PathTo, Path}
 use Rattle.lk_domain.specs.Plans.{kind_at}
 use Rattle.lk_domain.specs.declared.plan.Plan.{Plan}
-use Rattle.lk_pvdomain.specs.PvPaths.{PvPath}
-use Rattle.lk_run.specs.Entering.{PathTo}
 
 -- by which operation a lock of this kind is taken for a read and for a write, and in which manner it
 -- is held then
@@ -47,10 +46,9 @@ guard_in k = record { terms = terms_of k; kind = kind_at k 0; opening = k.balanc
 -- trail is a path of rows from the first one of the operation to one that takes.
 pub record IsTaken (h : Guard) (p : ℕ) (v : Verb) (m : Manner) (look : Look) : Type 0 where
   pub manner : look.manner ≡ m
-  pub path : halts h.terms.mode ≡ false → PathTo h.terms p (begun h.terms.mode 0 v 0) look.trail m
-  -- where processors halt, the end of a halt may come between two rows
-  pub halting : halts h.terms.mode ≡ true
-      → PvPath h.terms p (begun h.terms.mode 0 v 0) look.trail (Takes m)
+  pub path : PathTo h.terms p (begun h.terms.mode 0 v 0) look.trail (Takes m)
+  -- that of a spinlock ends the call
+  pub ends : takes_wait v ≡ false → Path h.terms p (begun h.terms.mode 0 v 0) look.trail (Takes m)
 
 -- the hold was taken for a read, or for a write
 

@@ -22,7 +22,7 @@ use Rattle.lk_pvdomain.specs.PvCalls.{IsResting}
 use Rattle.lk_run.specs.Entering.{HasEntered, Leaves}
 use Rattle.lk_run.specs.Phases.{Holds, starting}
 use Rattle.lk_lock.specs.Standing.{EntersLock, EntersOnce, FreesLock, IsAsBefore, IsHolding, IsOfKind, IsReady, LeavesLock, StaysOut, TakesLock, TurnsLock, holds_of}
-use Rattle.lk_lock.specs.Turns.{FreesBy, HasLocked, HasUnlocked, PathBy}
+use Rattle.lk_lock.specs.Turns.{FreesBy, HasLocked, HasUnlocked}
 use Rattle.lk_domain.proofs.Holds.{dropped}
 use Rattle.lk_lock.proofs.Marks.{turned_out}
 use Rattle.lk_lock.proofs.Steps.{after_call, as_before, come_in, holding, newest}
@@ -104,9 +104,8 @@ module _ (d : Domain) (old : Cpu) (was : IsReady d old) (awake : halts d.plan.mo
       → c.taken ≡ (calls_of old).taken + 1 → HasLocked (terms_of d.plan) old.number v l (calls_of old) c
   has_locked l v c taken once =
       record {
-        path = subst (λ (b : Bool). PathBy b (terms_of d.plan) old.number (begun d.plan.mode 0 v l) c.last (Takes Spins)) (sym awake)
-            (subst (λ (rs : List Running). Path (terms_of d.plan) old.number (begun d.plan.mode (length rs) v l) c.last (Takes Spins)) was.frames
-            taken.path);
+        path = subst (λ (rs : List Running). Path (terms_of d.plan) old.number (begun d.plan.mode (length rs) v l) c.last (Takes Spins)) was.frames
+            taken.path;
         frames = taken.frames;
         holds = newest l c.taken Spins (calls_of old) c.holds was.frames taken.holds;
         once = once;

@@ -5,7 +5,7 @@ use Rattle.lk_names.specs.declared.holder.Manner.TheVariants.{Spins}
 use Rattle.lk_law.specs.Agree.{halts}
 use Rattle.lk_rows.specs.declared.setup.Verb.{Verb}
 use Rattle.lk_rows.specs.declared.setup.Verb.TheVariants.{Unlock}
-use Rattle.lk_domain.specs.Calls.{Frees, Hold, Takes, begun, hold, holds_begun, holds_in, lock_name, terms_of}
+use Rattle.lk_domain.specs.Calls.{Frees, Hold, hold, holds_begun, holds_in, lock_name, terms_of}
 use Rattle.lk_domain.specs.Plans.{locks_of}
 use Rattle.lk_domain.specs.Plays.{carried_of}
 use Rattle.lk_domain.specs.Seats.{IsSame, calls_of}
@@ -18,9 +18,9 @@ use Rattle.lk_domain.specs.declared.view.View.{View}
 use Rattle.lk_domain.proofs.seats.Places.{carried_same}
 use Rattle.lk_pvdomain.specs.PvCalls.{MayFree, without}
 use Rattle.lk_pvdomain.specs.PvPaths.{Ended, Rests, Took, first_node, first_of}
-use Rattle.lk_pvdomain.proofs.ways.Frees.{IsLet, freed_none, freed_others, is_let, is_taken}
+use Rattle.lk_pvdomain.proofs.ways.Frees.{IsLet, freed_none, freed_others, is_let}
 use Rattle.lk_lock.specs.Standing.{FreesLock, IsHolding, IsReady, TakesLock, holds_of}
-use Rattle.lk_lock.specs.Turns.{FreesBy, HasLocked, PathBy}
+use Rattle.lk_lock.specs.Turns.{FreesBy, HasLocked}
 use Rattle.lk_lock.proofs.Marks.{left_without}
 use Rattle.lk_lock.proofs.Steps.{after_call, as_before, is_held, locked_last, none_out}
 
@@ -87,9 +87,9 @@ module _ (d : Domain) (old : Cpu) (was : IsReady d old) (on : halts d.plan.mode 
         → Took d v l (first_node old.number) (first_of v l old.seat) mid.seat → TakesLock d v l old mid
     pv_takes l v begins free took =
         let t = terms_of d.plan in
-        let let_it = is_taken d v l (first_node old.number) old.seat mid.seat took in
+        let let_it = is_let old.seat mid.seat took in
         let path : HasLocked t old.number v l (calls_of old) (calls_of mid) = record {
-          path = subst (λ (b : Bool). PathBy b t old.number (begun t.mode 0 v l) (calls_of mid).last (Takes Spins)) (sym on) took.path;
+          path = took.path;
           frames = let_it.frames ∙ sym was.frames;
           holds = took.holds ∙ ap (λ (hs : List Hold). hold 0 (lock_name l) Spins (calls_of mid).taken ∷ hs) (begins (holds_of old));
           once = took.taken;
@@ -105,7 +105,7 @@ module _ (d : Domain) (old : Cpu) (was : IsReady d old) (on : halts d.plan.mode 
         → FreesLock d l old mid
     pv_frees l free =
         let t = terms_of d.plan in
-        let let_it = is_let d l (first_node old.number) old.seat mid.seat free in
+        let let_it = is_let old.seat mid.seat free in
         record {
           ready = ready let_it;
           before = λ b has.

@@ -32,7 +32,7 @@ use Rattle.lk_pvdomain.specs.declared.domain.PvDomain.{PvDomain}
 use Rattle.lk_pvdomain.specs.declared.rest.PvRest.{PvRest}
 use Rattle.lk_pvdomain.specs.declared.rest.PvRest.TheVariants as rest
 use Rattle.lk_pvdomain.specs.declared.waiter.PvWaiter.{PvWaiter}
-use Rattle.lk_pvdomain.proofs.ways.Frees.{out_freed, out_taken}
+use Rattle.lk_pvdomain.proofs.ways.Frees.{out_kept}
 use Rattle.lk_port.specs.Asking.{MayCall}
 use Rattle.lk_port.specs.Ports.{Frees, HasUnlocked, Stays}
 use Rattle.lk_port.specs.Shares.{By, domain_of, may_halt}
@@ -110,7 +110,7 @@ pub took : (d : PvDomain) (v : Verb) (l : ℕ) (own : NodeName) (s : Start) (b :
     → l < locks_of d.domain.plan → Took d.domain v l own s b → IsHome d (set bs l true) b.me.0.calls.holds b.me.0.ledger
 took d v l own s b bs was low has =
     record {
-      out = ap (λ (g : Ledger). g.out) has.ledger ∙ (out_taken s.ledger l b.me.0.calls.last ∙ was.out);
+      out = ap (λ (g : Ledger). g.out) has.ledger ∙ (out_kept (grip.Takes Spins) s.ledger l b.me.0.calls.last ∙ was.out);
       home = ap are_home has.holds ∙ was.home;
       noted = subst (AreHeld (locks_of d.domain.plan) (set bs l true)) (sym has.holds) (held_more 0 l b.me.0.calls.taken Spins low was.noted);
     }
@@ -129,7 +129,7 @@ pub freed : (d : PvDomain) (l : ℕ) (a b : Cpu) (bs : List Bool) → IsHome d b
     → IsHome d (set bs l false) (calls_of b).holds (ledger_of b)
 freed d l a b bs was low free others =
     record {
-      out = ap (λ (g : Ledger). g.out) free.ended.ledger ∙ (out_freed (ledger_of a) l (calls_of b).last ∙ was.out);
+      out = ap (λ (g : Ledger). g.out) free.ended.ledger ∙ (out_kept grip.Frees (ledger_of a) l (calls_of b).last ∙ was.out);
       home = ap are_home others ∙ without_home (lock_name l) (calls_of a).holds was.home;
       noted = held_less l low was.noted others free.none;
     }

@@ -1,54 +1,28 @@
 -- Where a call stands between two of its rows, and what it has done when it is over, where processors
 -- halt. A processor is in one call at most, and nothing comes between the rows of a call.
-use Rattle.std.specs.Prelude.{◌≡◌, ℕ, ◌+◌, ◌<◌, Bool, true, false, List, [], ◌∷◌, ◌++◌, Option, Some, None}
+use Rattle.std.specs.Prelude.{◌≡◌, ℕ, ◌+◌, ◌<◌, Bool, true, false, List, [], ◌∷◌, Some}
 use Rattle.atomic_table.specs.Table.{Me}
 use Rattle.atomic_table.specs.Seated.{TableId}
 use Rattle.atomic_table.specs.declared.shared.Seat.{Seat}
 use Rattle.lk_names.specs.declared.holder.Manner.TheVariants.{Spins}
 use Rattle.lk_word.specs.declared.spin_word.NodeName.{NodeName}
-use Rattle.lk_rows.specs.Acts.{stands_halting, after_halt}
 use Rattle.lk_rows.specs.declared.parts.Frame.{Frame}
 use Rattle.lk_rows.specs.declared.parts.Pc.{Pc}
 use Rattle.lk_rows.specs.declared.setup.Verb.{Verb}
 use Rattle.lk_rows.specs.declared.setup.Verb.TheVariants.{Lock}
 use Rattle.lk_law.specs.Agree.{halts}
-use Rattle.lk_law.specs.Leads.{Met}
-use Rattle.lk_domain.specs.Calls.{Terms, Mark, mark, Running, Hold, hold, Grip, Takes, Frees, read_at, sight_of}
-use Rattle.lk_domain.specs.Calls.{terms_of, begun, lock_name, running, holds_begun, holds_after, taken_after}
+use Rattle.lk_law.specs.Sound.{takes_wait}
+use Rattle.lk_domain.specs.Calls.{Mark, Running, running, Hold, Calls, no_calls, Grip, Takes, Frees}
+use Rattle.lk_domain.specs.Calls.{terms_of, begun, lock_name, holds_begun, holds_after, taken_after}
 use Rattle.lk_domain.specs.Keeps.{Slot}
 use Rattle.lk_domain.specs.Ledgers.{Ledger, turned}
-use Rattle.lk_domain.specs.Paths.{next_frame, row_grip}
+use Rattle.lk_domain.specs.Paths.{Walk, Path}
 use Rattle.lk_domain.specs.Plans.{locks_of}
 use Rattle.lk_domain.specs.Who.{Who}
 use Rattle.lk_domain.specs.Words.{IsNode}
 use Rattle.lk_domain.specs.declared.domain.Domain.{Domain}
 use Rattle.lk_domain.specs.declared.view.View.{View}
 use Rattle.lk_pvdomain.specs.PvPlays.{woken}
-
--- The rows of the list lead from the frame a to the frame at the end. Where its processor had halted,
--- the frame has gone on when the halt ended, which is no row.
-pub data PvWalk (t : Terms) (p : ℕ) (a : Frame) : List Mark → Frame → Type 0 where
-  still : PvWalk t p a [] a
-  onward : (ks : List Mark) (f : Frame) (c d : Pc) (x : Met) (r : Option ℕ)
-      → PvWalk t p a ks f → f.place ≡ Some c
-      → (next_frame t.mode p (sight_of t p r) c f x).place ≡ Some d
-      → PvWalk t p a (ks ++ mark c x (read_at c (sight_of t p r)) ∷ [])
-      (next_frame t.mode p (sight_of t p r) c f x)
-  awoken : (ks : List Mark) (f : Frame) → PvWalk t p a ks f → stands_halting f.place ≡ true
-      → PvWalk t p a ks (record f { place = after_halt f.place })
-
--- the rows of the trail lead from the frame a to a row that ends the call, and does this to the holds
-pub record PvPath (t : Terms) (p : ℕ) (a : Frame) (trail : List Mark) (grip : Grip) : Type 0 where
-  pub before : List Mark
-  pub frame : Frame
-  pub row : Pc
-  pub met : Met
-  pub runs : Option ℕ
-  pub walk : PvWalk t p a before frame
-  pub place : frame.place ≡ Some row
-  pub is : trail ≡ before ++ mark row met (read_at row (sight_of t p runs)) ∷ []
-  pub ends : (next_frame t.mode p (sight_of t p runs) row frame met).place ≡ None
-  pub grips : row_grip t.mode p (sight_of t p runs) row frame met ≡ grip
 
 -- what was there when the call began, of the seat and of its view
 pub record Start : Type 0 where
@@ -75,6 +49,10 @@ starting v l table id m =
 
 abbrev pub first_of : Verb → ℕ → Seat Slot View → Start
 first_of v l a = starting v l a.table_id a.id a.me
+
+-- the calls of its processor then, which is in no other
+abbrev pub calls_at : Start → Calls
+calls_at s = record no_calls { holds = s.holds; taken = s.taken }
 
 -- the node of the calls of a processor, which is its first
 abbrev pub first_node : ℕ → NodeName
@@ -103,12 +81,25 @@ pub record RestsOn (d : Domain) (own : NodeName) (table : TableId) (m : Me Slot 
 abbrev pub Rests : Domain → NodeName → Seat Slot View → Type 0
 Rests d own a = RestsOn d own a.table_id a.me
 
+-- Since the call began so, it is the same seat of the same processor, with the same slots. The processor
+-- has not halted.
+pub record IsStill (d : Domain) (own : NodeName) (s : Start) (table : TableId) (id : ℕ) (m : Me Slot View) : Type 0 where
+  pub of : IsSeat d own table m
+  pub table_was : table ≡ s.table
+  pub id_was : id ≡ s.id
+  pub who : m.0.who ≡ s.who
+  pub slots : m.1 ≡ s.slots
+  pub awake : m.0.calls.halted ≡ false
+  pub fresh : m.0.calls.looked ≡ 0
+
 -- The call of this operation on the lock l, which began so, stands at the row c, its processor has not
--- halted, and its frame meets the condition.
+-- halted, and its frame meets the condition: it is on no wait lock, has no lock yet, and none was taken
+-- since (`IsAt`, over no other frames).
 pub record AtOn (d : Domain) (v : Verb) (l : ℕ) (own : NodeName) (s : Start) (c : Pc) (condition : Frame → Type 0)
     (table : TableId) (id : ℕ) (m : Me Slot View) : Type 0 where
   pub of : IsSeat d own table m
   pub low : l < locks_of d.plan
+  pub plain : takes_wait v ≡ false
   pub table_was : table ≡ s.table
   pub id_was : id ≡ s.id
   pub who : m.0.who ≡ s.who
@@ -120,7 +111,7 @@ pub record AtOn (d : Domain) (v : Verb) (l : ℕ) (own : NodeName) (s : Start) (
   pub fresh : m.0.calls.looked ≡ 0
   pub frame : Frame
   pub trail : List Mark
-  pub walk : PvWalk (terms_of d.plan) own.cpu (begun d.plan.mode 0 v l) trail frame
+  pub walk : Walk (terms_of d.plan) own.cpu (begun d.plan.mode 0 v l) trail frame
   pub frames : m.0.calls.frames ≡ running v frame trail ∷ []
   pub place : frame.place ≡ Some c
   pub lock : frame.lock ≡ lock_name l
@@ -142,40 +133,26 @@ pub record HaltedOn (d : Domain) (v : Verb) (l : ℕ) (own : NodeName) (s : Star
 abbrev pub Halted : Domain → ℕ → NodeName → Start → Pc → Pc → (Frame → Type 0) → Seat Slot View → Type 0
 Halted d l own s c e P a = HaltedOn d Lock l own s c e P a.table_id a.id a.me
 
--- the call that began so is over, and its processor is in none
-pub record IsOver (d : Domain) (own : NodeName) (s : Start) (table : TableId) (id : ℕ) (m : Me Slot View) : Type 0 where
-  pub of : IsSeat d own table m
-  pub table_was : table ≡ s.table
-  pub id_was : id ≡ s.id
-  pub who : m.0.who ≡ s.who
-  pub slots : m.1 ≡ s.slots
-  pub frames : m.0.calls.frames ≡ []
-  pub awake : m.0.calls.halted ≡ false
-  pub fresh : m.0.calls.looked ≡ 0
-
--- it has taken the lock, by its last row
-pub record TookOn (d : Domain) (v : Verb) (l : ℕ) (own : NodeName) (s : Start) (table : TableId) (id : ℕ)
-    (m : Me Slot View) : Type 0 where
-  pub over : IsOver d own s table id m
-  pub path : PvPath (terms_of d.plan) own.cpu (begun d.plan.mode 0 v l) m.0.calls.last (Takes Spins)
-  pub holds : m.0.calls.holds ≡ hold 0 (lock_name l) Spins m.0.calls.taken ∷ s.holds
-  pub taken : m.0.calls.taken ≡ s.taken + 1
-  pub ledger : m.0.ledger ≡ turned s.ledger (lock_name l) (Takes Spins) m.0.calls.last
-
-abbrev pub Took : Domain → Verb → ℕ → NodeName → Start → Seat Slot View → Type 0
-Took d v l own s a = TookOn d v l own s a.table_id a.id a.me
-
--- The call is over by its last row, which has done this to the holds: it has missed the lock, or freed it.
+-- The call is over by its last row, which has done this to the holds: it has taken the lock, missed it, or
+-- freed it. Its processor is in no call.
 pub record EndedOn (d : Domain) (v : Verb) (l : ℕ) (own : NodeName) (s : Start) (grip : Grip) (table : TableId) (id : ℕ)
     (m : Me Slot View) : Type 0 where
-  pub over : IsOver d own s table id m
-  pub path : PvPath (terms_of d.plan) own.cpu (begun d.plan.mode 0 v l) m.0.calls.last grip
-  pub holds : m.0.calls.holds ≡ holds_after grip 0 (lock_name l) (s.taken + 1) s.holds
+  pub still : IsStill d own s table id m
+  pub frames : m.0.calls.frames ≡ []
+  pub path : Path (terms_of d.plan) own.cpu (begun d.plan.mode 0 v l) m.0.calls.last grip
+  pub holds : m.0.calls.holds ≡ holds_after grip 0 (lock_name l) m.0.calls.taken s.holds
   pub taken : m.0.calls.taken ≡ taken_after grip s.taken
   pub ledger : m.0.ledger ≡ turned s.ledger (lock_name l) grip m.0.calls.last
 
 abbrev pub Ended : Domain → Verb → ℕ → NodeName → Start → Grip → Seat Slot View → Type 0
 Ended d v l own s grip a = EndedOn d v l own s grip a.table_id a.id a.me
+
+-- it has taken the lock
+abbrev pub TookOn : Domain → Verb → ℕ → NodeName → Start → TableId → ℕ → Me Slot View → Type 0
+TookOn d v l own s table id m = EndedOn d v l own s (Takes Spins) table id m
+
+abbrev pub Took : Domain → Verb → ℕ → NodeName → Start → Seat Slot View → Type 0
+Took d v l own s a = TookOn d v l own s a.table_id a.id a.me
 
 -- the release has freed the lock, and is about to kick
 abbrev pub freed : Start → ℕ → List Mark → Start

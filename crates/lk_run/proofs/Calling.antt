@@ -20,18 +20,19 @@ use Rattle.lk_domain.specs.Rows.{is_watch, is_swap, is_patient}
 use Rattle.lk_domain.specs.Seats.{IsOf, KeepsRest, calls_of, view_of}
 use Rattle.lk_domain.specs.declared.cpu.Cpu.{Cpu}
 use Rattle.lk_domain.specs.Plans.{layout_in}
+use Rattle.lk_domain.specs.Standing.{Outside}
+use Rattle.lk_domain.proofs.Standing.{stays}
 use Rattle.lk_word.specs.declared.spin_word.Fields.{Fields}
 use Rattle.lk_word.specs.SpinWord.{packed, IsPackable}
 use Rattle.lk_rows.specs.rows.Spin.{after_fast}
 use Rattle.lk_run.specs.Phases.{StandsAs}
-use Rattle.lk_run.specs.Standing.{Outside}
 use Rattle.lk_run.specs.Words.{Waits, At, Steps, Looks, LooksOn, Takes, IsNext}
 use Rattle.lk_run.specs.Resting.{Came, Turns, Turned}
 use Rattle.lk_run.specs.declared.call.Call.{Call}
 use Rattle.lk_run.specs.declared.rest.Rest.{Rest}
 use Rattle.lk_run.proofs.Steps.{still_of, rest_both}
 use Rattle.lk_run.proofs.Stepped as way
-use Rattle.lk_run.proofs.Ways.{Leads, Ends, sees, ready_row, queues_taking, queues_patient, queues_inside, then_is}
+use Rattle.lk_run.proofs.Ways.{Leads, Ends, sees, ready_row, queues_patient, queues_inside, then_is}
 
 -- what is behind a value, if there is one
 
@@ -74,29 +75,15 @@ module _ {w : Call} {a b : Cpu} (of : IsOf a w.domain.now) (rest : KeepsRest a b
 -- a call that stands there has a frame that meets another condition too
 pub weaker : {w : Call} {c : Pc} {P Q : Frame → Type 0} {a : Cpu} (at : At w c P a)
     → Q at.waits.looked.at.frame → At w c Q a
-weaker at has =
+weaker {Q} at has =
     let looked = at.waits.looked in
-    let on = looked.at in
     record {
       domain = at.domain;
       start = at.start;
       told = at.told;
       waits = record {
         looked = record {
-          at = record {
-            frame = on.frame;
-            trail = on.trail;
-            walk = on.walk;
-            frames = on.frames;
-            holds = on.holds;
-            taken = on.taken;
-            place = on.place;
-            lock = on.lock;
-            ctx = on.ctx;
-            after = on.after;
-            free = on.free;
-            has = has;
-          };
+          at = stays looked.at Q has refl looked.at.holds looked.at.taken;
           passes = looked.passes;
           falls = looked.falls;
           stays = looked.stays;
@@ -131,7 +118,7 @@ module _ {w : Call} {c : Pc} {P : Frame → Type 0} {a : Cpu} (at : At w c P a) 
   -- a step of it on the word of its lock
   module _ {b : Cpu} (rest : KeepsRest a b) {met : ℕ} (made : MadeBy w.verb w.lock.index a.seat.me met b.seat.me) where
     pub word : view_of b ≡ rowed (view_of a) (calls_of a) (Word made.found)
-    word = way.on_word w.domain.now w.verb w.lock a b rest at.domain made (queues_taking w.verb w.lock w.queues) at.waits.looked.at
+    word = way.on_word w.domain.now w.verb w.lock a b rest at.domain made at.waits.looked.at
 
     pub word_steps : (e : Pc) (Q : Frame → Type 0) → (e ≡ c → ⊥)
         → ((f : Frame) → P f → Leads w.domain.now.plan.mode b.number (sees w.domain.now a b) c f (Word made.found) e Q)

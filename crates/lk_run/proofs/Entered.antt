@@ -11,17 +11,17 @@ use Rattle.lk_rows.specs.declared.parts.Pc.TheVariants.{F1, U1}
 use Rattle.lk_rows.specs.declared.setup.Verb.{Verb}
 use Rattle.lk_law.specs.Leads.{Met}
 use Rattle.lk_law.specs.Sound.{after_wait, takes_wait}
-use Rattle.lk_domain.specs.Calls.{terms_of, sight_of, read_at, mark, Calls, lock_name, row_of, Unchanged, Takes, Frees}
+use Rattle.lk_domain.specs.Calls.{terms_of, sight_of, read_at, mark, Calls, lock_name, Unchanged, Takes, Frees}
 use Rattle.lk_domain.specs.Ledgers.{turned}
 use Rattle.lk_domain.specs.Paths.{HasLooked, Any, Passes, is_busy}
 use Rattle.lk_domain.specs.Plays.{rowed}
 use Rattle.lk_domain.specs.Seats.{IsOf, KeepsRest, calls_of, ledger_of, view_of}
+use Rattle.lk_domain.specs.Standing.{Outside, Inside, Entered, IsOn}
 use Rattle.lk_domain.specs.declared.cpu.Cpu.{Cpu}
 use Rattle.lk_domain.specs.declared.domain.Domain.{Domain}
-use Rattle.lk_run.specs.Entering.{HasEntered}
+use Rattle.lk_domain.proofs.Standing.{count_after, path_to}
 use Rattle.lk_run.specs.Polls.{NeverFalls, RisesBy, HasStayed, Acquires}
-use Rattle.lk_run.specs.Phases.{Start, newest, Waits, HasPolled, CameIn, HasPassed, Passed}
-use Rattle.lk_run.specs.Standing.{Outside, Inside, Entered, IsOn, waiter}
+use Rattle.lk_run.specs.Phases.{Start, newest, Waits, HasPolled, CameIn, HasPassed, Passed, waiter}
 use Rattle.lk_run.proofs.RwRows.{TakesBy, SetsOut, FreesIt}
 use Rattle.lk_run.proofs.Standing as path
 use Rattle.lk_run.proofs.Polls.{stays_before, recount}
@@ -53,9 +53,7 @@ module _ (d : Domain) (v : Verb) (n : LockName) (a b : Cpu) (rest : KeepsRest a 
       ∙ ap (λ ms. turned (ledger_of a) (lock_name n.index) (Takes m) ms) (sym last)) in
       record {
         upto = (calls_of b).last;
-        entered = subst (λ (z : Calls). HasEntered (terms_of d.plan) b.number v n.index m z.last s.calls z)
-            (sym (way.calls d v n a b rest of was x step c P Outside s.calls at))
-            (path.enters_at_once at x m takes.grip takes.place own);
+        entered = path.enters_at_once at x (way.calls d v n a b rest of was x step c P Outside s.calls at) m takes.place takes.grip own;
         look = looked n.index m s.calls (calls_of b).last s.ledger (ledger_of a) (ledger_of b) passes turns;
         polled = record {
           falls = falls;
@@ -80,9 +78,7 @@ module _ (d : Domain) (v : Verb) (l : ℕ) (a b : Cpu) (rest : KeepsRest a b) (o
   sets_out e out next other =
       record {
         looked = record {
-          at = subst (IsOn (terms_of d.plan) b.number v (wait_name l) F1 Any Outside s.calls)
-              (sym (way.calls d v (lock_name l) a b rest of was x step c P Outside s.calls at))
-              (path.queues at x e out.frame out.grip next);
+          at = path.queues at x (way.calls d v (lock_name l) a b rest of was x step c P Outside s.calls at) e out.frame out.grip next;
           passes = way.passed d v (lock_name l) a b rest of was x step c P Outside s at told passes falls rises once out.grip;
           falls = falls;
           stays = way.polls_over d v (lock_name l) a b rest of was x step c P Outside s at told passes falls rises once
@@ -104,25 +100,24 @@ module _ (d : Domain) (v : Verb) (l : ℕ) (a b : Cpu) (rest : KeepsRest a b) (o
   pub passes : (m : Manner) → TakesBy d.plan.mode b.number (way.sees d a b) c here.frame x m (Some U1) → (U1 ≡ c → ⊥) → Passed d v l m s b told
   passes m takes other =
       let at = here in
-      let out = row_of (terms_of d.plan) b.number (calls_of a) x in
+      let is = way.calls d v (wait_name l) a b rest of (calls_of a) x step c Any Inside s.calls at in
       let own = takes.own ∙ own_name at.frame (wait_name l) at.lock in
       let turns =
       way.turns d v (wait_name l) a b rest of (calls_of a) x step c Any Inside s.calls at
       ∙ (λ i. turned (ledger_of a) (own i) (takes.grip i) (at.trail ++ way.marked d b (calls_of a) c x ∷ [])) in
-      let count = path.count_is at x m takes.grip in
+      let count : (calls_of b).taken ≡ (calls_of a).taken + 1 = count_after at x is (Takes m) takes.grip in
       let least : s.calls.taken + 1 ≤ (calls_of a).taken = at.taken in
       let before = way.before d v (wait_name l) a b rest of (calls_of a) x step c Any Inside s.calls at in
-      subst (λ (z : Calls). HasPassed (terms_of d.plan) b.number v l m s z (ledger_of b) told)
-      (sym (way.calls d v (wait_name l) a b rest of (calls_of a) x step c Any Inside s.calls at)) (record {
-        at = path.enters at x m takes.place takes.grip own takes.lock takes.after;
-        takes = path.path_to at x m takes.grip;
+      record {
+        at = path.enters at x is m takes.place takes.grip own takes.lock takes.after;
+        takes = path_to at x is (Takes m) takes.grip;
         taken = omega (arith, count, least);
         look = looked l m s.calls (at.trail ++ way.marked d b (calls_of a) c x ∷ []) s.ledger (ledger_of a) (ledger_of b) w.looked.passes turns;
         falls = w.looked.falls;
         rises = λ y r k h. w.rises x (read_at c (way.sees d a b)) k (subst (λ t. HasStayed k (t ++ way.marked d b (calls_of a) c x ∷ [])) (sym before)
             (stays_before k at.trail (way.marked d b (calls_of a) c x) (mark U1 y r) other h));
-        once = recount s.nests 1 2 s.calls (calls_of a) out s.told told w.looked.once (λ e. omega (arith, count, e));
-      })
+        once = recount s.nests 1 2 s.calls (calls_of a) (calls_of b) s.told told w.looked.once (λ e. omega (arith, count, e));
+      }
 
 -- and frees the wait lock
 module _ (d : Domain) (v : Verb) (l : ℕ) (m : Manner) (a b : Cpu) (rest : KeepsRest a b) (of : IsOf a d) (x : Met)
@@ -134,20 +129,17 @@ module _ (d : Domain) (v : Verb) (l : ℕ) (m : Manner) (a b : Cpu) (rest : Keep
   pub ends : FreesIt d.plan.mode b.number (way.sees d a b) U1 gone.at.frame x → CameIn d v l m s b told
   ends free =
       let at = gone.at in
+      let is = way.calls d v (wait_name l) a b rest of (calls_of a) x step U1 Any (Entered m) s.calls at in
       let same : ledger_of b ≡ ledger_of a =
       way.turns d v (wait_name l) a b rest of (calls_of a) x step U1 Any (Entered m) s.calls at
       ∙ ((λ i. turned (ledger_of a) ((free.own ∙ at.lock) i) (free.grip i) (at.trail ++ mark U1 x 0 ∷ []))
       ∙ way.wait_turned (ledger_of a) (wait_name l) Frees (at.trail ++ mark U1 x 0 ∷ []) refl) in
       let last = way.last_is d v (wait_name l) a b rest of (calls_of a) x step U1 Any (Entered m) s.calls at free.place in
       let long : length (calls_of b).last ≡ length at.trail + 1 = ap length last ∙ length-append at.trail (mark U1 x 0 ∷ []) in
-      let count : (calls_of b).taken ≡ (calls_of a).taken =
-      ap (λ (z : Calls). z.taken) (way.calls d v (wait_name l) a b rest of (calls_of a) x step U1 Any (Entered m) s.calls at)
-      ∙ path.count_after at x Frees free.grip in
+      let count : (calls_of b).taken ≡ (calls_of a).taken = count_after at x is Frees free.grip in
       record {
         upto = at.trail;
-        entered = subst (λ (z : Calls). HasEntered (terms_of d.plan) b.number v l m at.trail s.calls z)
-            (sym (way.calls d v (wait_name l) a b rest of (calls_of a) x step U1 Any (Entered m) s.calls at))
-            (path.leaves at x refl free.place free.grip free.own waits gone.takes gone.taken);
+        entered = path.leaves at x is free.place free.grip free.own waits gone.takes gone.taken;
         look = subst (λ g. HasLooked l m s.calls at.trail s.ledger g) (sym same) gone.look;
         polled = record { falls = gone.falls; rises = λ k h. gone.rises x 0 k (subst (HasStayed k) last h) };
         once = recount s.nests 2 (1 + (length (calls_of b).last - length at.trail)) s.calls (calls_of a) (calls_of b) s.told told gone.once (λ e. omega (arith, e, long, count));

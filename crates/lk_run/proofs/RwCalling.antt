@@ -13,11 +13,11 @@ use Rattle.lk_domain.specs.Paths.{Any}
 use Rattle.lk_domain.specs.Plays.{rowed}
 use Rattle.lk_domain.specs.RwPlays.{ActsFor, SharedBy}
 use Rattle.lk_domain.specs.Seats.{KeepsRest, calls_of, view_of}
+use Rattle.lk_domain.specs.Standing.{Outside, Inside}
 use Rattle.lk_domain.specs.declared.cpu.Cpu.{Cpu}
 use Rattle.lk_domain.specs.declared.domain.Domain.{Domain}
 use Rattle.lk_domain.proofs.Turned.{is_taking}
-use Rattle.lk_run.specs.Phases.{Start, StandsAs, CameIn, Passed}
-use Rattle.lk_run.specs.Standing.{Outside, Inside, Waiter, waiter}
+use Rattle.lk_run.specs.Phases.{Start, StandsAs, CameIn, Passed, Waiter, waiter}
 use Rattle.lk_run.specs.Waiters.{Waits, At, Steps, Looks, Gets}
 use Rattle.lk_run.proofs.RwRows as row
 use Rattle.lk_run.proofs.RwSteps as rw
@@ -49,7 +49,7 @@ module _ {w : Waiter} {c : Pc} {a : Cpu} (at : At w c a) where
   module _ {b : Cpu} (rest : KeepsRest a b) (takes : is_taking w.verb ≡ true) {met : ℕ}
       (made : SharedBy w.verb w.lock.index a.seat.me met b.seat.me) where
     word : view_of b ≡ rowed (view_of a) (calls_of a) (Shared made.found)
-    word = way.on_shared w.domain w.verb w.lock a b rest at.domain made takes at.waits.looked.at
+    word = way.on_shared w.domain w.verb w.lock a b rest at.domain made at.waits.looked.at
 
     pub steps : (e : Pc) → (e ≡ c → ⊥) → ((f : Frame) → Leads w.domain.plan.mode b.number (sees w.domain a b) c f (Shared made.found) e Any)
         → Steps w c e a b

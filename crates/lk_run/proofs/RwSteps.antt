@@ -22,19 +22,19 @@ use Rattle.lk_domain.specs.RwRows.{watches_at}
 use Rattle.lk_law.specs.Premises.{IsThen}
 use Rattle.lk_domain.specs.RwPlays.{ActsFor, SharedBy}
 use Rattle.lk_domain.specs.Seats.{IsOf, KeepsRest, calls_of, ledger_of, view_of}
+use Rattle.lk_domain.specs.Standing.{Stage, Outside, Inside, IsOn}
 use Rattle.lk_domain.specs.Waits.{MayTake}
 use Rattle.lk_domain.specs.declared.cpu.Cpu.{Cpu}
 use Rattle.lk_domain.specs.declared.domain.Domain.{Domain}
 use Rattle.lk_domain.proofs.Acting.{acts_on, begins_on}
+use Rattle.lk_domain.proofs.Standing as path
 use Rattle.lk_domain.proofs.Turned.{is_taking}
 use Rattle.lk_domain.proofs.Ways.{acts_first}
-use Rattle.lk_run.specs.Phases.{Start, StandsAs, Waits, HasPolled, CameIn, Passed, biased, starting}
+use Rattle.lk_run.specs.Phases.{Start, StandsAs, Waits, HasPolled, CameIn, Passed, biased, starting, waiter}
 use Rattle.lk_run.specs.PolledRead.{Alone, Nested, Began}
-use Rattle.lk_run.specs.Standing.{Stage, Outside, Inside, IsOn, waiter}
 use Rattle.lk_run.proofs.Entered as enter
 use Rattle.lk_run.proofs.Polls.{falls_none}
 use Rattle.lk_run.proofs.RwRows.{TakesBy, SetsOut, FreesIt}
-use Rattle.lk_run.proofs.Standing as path
 use Rattle.lk_run.proofs.Stepped as step
 use Rattle.lk_run.proofs.Steps.{seat_of, passes_none}
 use Rattle.lk_run.proofs.Ways as way
@@ -86,7 +86,7 @@ module _ (d : Domain) (v : Verb) (l : ℕ) (a b : Cpu) (rest : KeepsRest a b) (o
   free _ = made.outside (length (calls_of a).frames) (omega arith)
 
   at : IsOn (terms_of d.plan) b.number v (lock_name l) row Any Outside (calls_of a) (begin d.plan.mode (calls_of a) v l)
-  at = path.starts (terms_of d.plan) b.number v l (calls_of a) takes free
+  at = (path.starts (terms_of d.plan) b.number v l (calls_of a) takes free).on
 
   pub first_enters : (m : Manner) → ((f : Frame) → TakesBy d.plan.mode b.number (sight_of (terms_of d.plan) b.number None) row f x m None) → CameIn d v l m (starting a nests told) b told
   first_enters m leads =
@@ -116,7 +116,7 @@ module _ (d : Domain) (v : Verb) (l : ℕ) (a b : Cpu) (rest : KeepsRest a b) (o
     (w : Waits d v (lock_name l) c Any s a told) where
   pub on_enters : (m : Manner) → ((f : Frame) → TakesBy d.plan.mode b.number (way.sees d a b) c f (Shared made.found) m None) → CameIn d v l m s b told
   on_enters m leads =
-      let is = step.on_shared d v (lock_name l) a b rest of made takes w.looked.at in
+      let is = step.on_shared d v (lock_name l) a b rest of made w.looked.at in
       let at = step.here d v (lock_name l) a b rest of (Shared made.found) is c Any Outside s told w in
       enter.enters d v (lock_name l) a b rest of (calls_of a) (Shared made.found) is c Any s at told
       w.looked.passes w.looked.falls w.rises w.looked.once m (leads at.frame)
@@ -124,7 +124,7 @@ module _ (d : Domain) (v : Verb) (l : ℕ) (a b : Cpu) (rest : KeepsRest a b) (o
   pub on_sets_out : (e : Pc) → ((f : Frame) → SetsOut d.plan.mode b.number (way.sees d a b) c f (Shared made.found) e) → Some e ≡ after_wait v
       → (F1 ≡ c → ⊥) → Waits d v (wait_name l) F1 Any s b told
   on_sets_out e leads next other =
-      let is = step.on_shared d v (lock_name l) a b rest of made takes w.looked.at in
+      let is = step.on_shared d v (lock_name l) a b rest of made w.looked.at in
       let at = step.here d v (lock_name l) a b rest of (Shared made.found) is c Any Outside s told w in
       enter.sets_out d v l a b rest of (calls_of a) (Shared made.found) is c Any s at told
       w.looked.passes w.looked.falls w.rises w.looked.once e (leads at.frame) next other
@@ -136,7 +136,7 @@ module _ (d : Domain) (v : Verb) (l : ℕ) (a b : Cpu) (rest : KeepsRest a b) (o
   pub on_passes : (m : Manner) → ((f : Frame) → TakesBy d.plan.mode b.number (way.sees d a b) c f (Shared made.found) m (Some U1)) → (U1 ≡ c → ⊥)
       → Passed d v l m s b told
   on_passes m leads other =
-      let is = step.on_shared d v (wait_name l) a b rest of made takes w.looked.at in
+      let is = step.on_shared d v (wait_name l) a b rest of made w.looked.at in
       enter.passes d v l a b rest of (Shared made.found) is c s told w m
       (leads (enter.here d v l a b rest of (Shared made.found) is c s told w).frame) other
 
@@ -146,7 +146,7 @@ pub on_ends : (d : Domain) (v : Verb) (l : ℕ) (m : Manner) (a b : Cpu) (rest :
     → Passed d v l m s a told → takes_wait v ≡ true
     → ((f : Frame) → FreesIt d.plan.mode b.number (way.sees d a b) U1 f (Word made.found)) → CameIn d v l m s b told
 on_ends d v l m a b rest of takes made s told w waits frees =
-    let is = step.on_word d v (wait_name l) a b rest of made takes w.at in
+    let is = step.on_word d v (wait_name l) a b rest of made w.at in
     enter.ends d v l m a b rest of (Word made.found) is s told w waits
     (frees (enter.gone d v l m a b rest of (Word made.found) is s told w waits).at.frame)
 

@@ -17,14 +17,15 @@ use Rattle.lk_law.specs.Leads.{Met, Shared, held_lock}
 use Rattle.lk_law.specs.Agree.{halts}
 use Rattle.lk_law.specs.Sound.{takes_wait}
 use Rattle.lk_domain.specs.Calls.{terms_of, sight_of, Terms, Calls, begin, begun, acting, is_on, waits_in, way_in, lock_name, row_of}
-use Rattle.lk_domain.specs.Calls.{Unchanged, Takes, Frees}
+use Rattle.lk_domain.specs.Calls.{Takes, Frees}
 use Rattle.lk_domain.specs.Ledgers.{Ledger, turned}
-use Rattle.lk_domain.specs.Paths.{HasTaken, HasMissed, Any, row_grip}
+use Rattle.lk_domain.specs.Paths.{Any, row_grip}
 use Rattle.lk_domain.specs.Plans.{kind_at}
 use Rattle.lk_domain.specs.Plays.{rowed, turned_of}
 use Rattle.lk_domain.specs.RwPlays.{ActsFor, SharedBy}
 use Rattle.lk_domain.specs.RwRows.{joins_at, seizes_at}
 use Rattle.lk_domain.specs.Seats.{IsOf, KeepsRest, calls_of, ledger_of, view_of}
+use Rattle.lk_domain.specs.Standing.{Outside, IsAt}
 use Rattle.lk_domain.specs.Views.{own_number}
 use Rattle.lk_domain.specs.Waits.{WaitsAt, Moves, Gains, Misses}
 use Rattle.lk_domain.specs.declared.cpu.Cpu.{Cpu}
@@ -32,50 +33,47 @@ use Rattle.lk_domain.specs.declared.domain.Domain.{Domain}
 use Rattle.lk_domain.specs.declared.plan.Plan.{Plan}
 use Rattle.lk_domain.proofs.Freed.{not_unlocking, released}
 use Rattle.lk_domain.proofs.Seating.{apart_of}
+use Rattle.lk_domain.proofs.Standing as path
 use Rattle.lk_domain.proofs.Turned.{is_taking}
 use Rattle.lk_run.specs.Entering.{HasLeft, Leaves}
-use Rattle.lk_run.specs.Standing.{Outside, IsOn}
 use Rattle.lk_run.proofs.RwRows.{TakesBy, Fails}
 use Rattle.lk_run.proofs.RwSteps as rw
-use Rattle.lk_run.proofs.Standing as path
 use Rattle.lk_run.proofs.Stepped as step
 use Rattle.lk_run.proofs.Ways as way
 use Rattle.lk_run.proofs.Ways.{Leads}
 
 module _ (d : Domain) (v : Verb) (l : ℕ) (a b : Cpu) (rest : KeepsRest a b) (of : IsOf a d) (was : Calls) (x : Met)
     (is : view_of b ≡ rowed (view_of a) was x) (c : Pc) (old : Calls)
-    (at : IsOn (terms_of d.plan) b.number v (lock_name l) c Any Outside old was) (count : was.taken ≡ old.taken) where
-  turns : ledger_of b ≡ turned (ledger_of a) (held_lock (target c at.frame) at.frame) (row_grip d.plan.mode b.number (sight_of (terms_of d.plan) b.number was.runs) c at.frame x) (at.trail ++ way.marked d b was c x ∷ [])
-  turns = way.turns d v (lock_name l) a b rest of was x is c Any Outside old at
+    (at : IsAt (terms_of d.plan) b.number v l c Any old was) where
+  turns : ledger_of b ≡ turned (ledger_of a) (held_lock (target c at.on.frame) at.on.frame) (row_grip d.plan.mode b.number (sight_of (terms_of d.plan) b.number was.runs) c at.on.frame x) (at.on.trail ++ way.marked d b was c x ∷ [])
+  turns = way.turns d v (lock_name l) a b rest of was x is c Any Outside old at.on
 
   calls : calls_of b ≡ row_of (terms_of d.plan) b.number was x
-  calls = way.calls d v (lock_name l) a b rest of was x is c Any Outside old at
+  calls = way.calls d v (lock_name l) a b rest of was x is c Any Outside old at.on
 
-  moves_at : (e : Pc) → Leads d.plan.mode b.number (sight_of (terms_of d.plan) b.number was.runs) c at.frame x e Any → Moves d v l e old a b
+  moves_at : (e : Pc) → Leads d.plan.mode b.number (sight_of (terms_of d.plan) b.number was.runs) c at.on.frame x e Any → Moves d v l e old a b
   moves_at e leads =
       record {
-        waits = path.at_of (subst (IsOn (terms_of d.plan) b.number v (lock_name l) e Any Outside old) (sym calls)
-            (path.goes at x e Any leads.place leads.grip leads.lock leads.after leads.has))
-            (ap (λ (z : Calls). z.taken) calls ∙ (path.count_after at x Unchanged leads.grip ∙ count));
-        ledger = turns ∙ ap (λ y. turned (ledger_of a) (held_lock (target c at.frame) at.frame) y (at.trail ++ way.marked d b was c x ∷ [])) leads.grip;
+        waits = path.moves at x calls e Any leads.place leads.grip leads.lock leads.has;
+        ledger = turns ∙ ap (λ y. turned (ledger_of a) (held_lock (target c at.on.frame) at.on.frame) y (at.on.trail ++ way.marked d b was c x ∷ [])) leads.grip;
       }
 
-  gains_at : (m : Manner) → TakesBy d.plan.mode b.number (sight_of (terms_of d.plan) b.number was.runs) c at.frame x m None → Gains d v l m old a b
+  gains_at : (m : Manner) → TakesBy d.plan.mode b.number (sight_of (terms_of d.plan) b.number was.runs) c at.on.frame x m None → Gains d v l m old a b
   gains_at m takes =
-      let own = takes.own ∙ ap (λ (z : LockName). lock_name z.index) at.lock in
-      let last = way.last_is d v (lock_name l) a b rest of was x is c Any Outside old at takes.place in
+      let own = takes.own ∙ ap (λ (z : LockName). lock_name z.index) at.on.lock in
+      let last = way.last_is d v (lock_name l) a b rest of was x is c Any Outside old at.on takes.place in
       record {
-        taken = subst (λ (z : Calls). HasTaken (terms_of d.plan) b.number v l m old z) (sym calls) (path.takes at x m takes.grip takes.place own);
-        once = ap (λ (z : Calls). z.taken) calls ∙ (path.count_is at x m takes.grip ∙ ap (λ (n : ℕ). n + 1) count);
-        ledger = turns ∙ ((λ i. turned (ledger_of a) (own i) (takes.grip i) (at.trail ++ way.marked d b was c x ∷ []))
+        taken = path.takes at.on x calls m takes.place takes.grip own;
+        once = path.count_after at.on x calls (Takes m) takes.grip ∙ ap (λ (n : ℕ). n + 1) at.taken;
+        ledger = turns ∙ ((λ i. turned (ledger_of a) (own i) (takes.grip i) (at.on.trail ++ way.marked d b was c x ∷ []))
             ∙ ap (λ ms. turned (ledger_of a) (lock_name l) (Takes m) ms) (sym last));
       }
 
-  misses_at : Fails d.plan.mode b.number (sight_of (terms_of d.plan) b.number was.runs) c at.frame x → Misses d v l old a b
+  misses_at : Fails d.plan.mode b.number (sight_of (terms_of d.plan) b.number was.runs) c at.on.frame x → Misses d v l old a b
   misses_at fails =
       record {
-        missed = subst (λ (z : Calls). HasMissed (terms_of d.plan) b.number v l old z) (sym calls) (path.misses at count x fails.place fails.grip);
-        ledger = turns ∙ ap (λ y. turned (ledger_of a) (held_lock (target c at.frame) at.frame) y (at.trail ++ way.marked d b was c x ∷ [])) fails.grip;
+        missed = path.misses at.on x calls at.taken fails.place fails.grip;
+        ledger = turns ∙ ap (λ y. turned (ledger_of a) (held_lock (target c at.on.frame) at.on.frame) y (at.on.trail ++ way.marked d b was c x ∷ [])) fails.grip;
       }
 
 -- a try that begins
@@ -87,35 +85,34 @@ module _ (d : Domain) (v : Verb) (l : ℕ) (a b : Cpu) (rest : KeepsRest a b) (o
   first_is : view_of b ≡ rowed (view_of a) (begin d.plan.mode (calls_of a) v l) (Shared made.found)
   first_is = step.first_shared d v (lock_name l) a b rest of made none
 
-  first_at : IsOn (terms_of d.plan) b.number v (lock_name l) row Any Outside (calls_of a) (begin d.plan.mode (calls_of a) v l)
-  first_at = path.starts (terms_of d.plan) b.number v l (calls_of a) takes (λ e. let z : true ≡ false = sym e ∙ no in absurd (cc z))
+  first_at : IsAt (terms_of d.plan) b.number v l row Any (calls_of a) (begin d.plan.mode (calls_of a) v l)
+  first_at = path.starts (terms_of d.plan) b.number v l (calls_of a) takes (path.never_waits v no)
 
   pub first_moves : (e : Pc) → ((f : Frame) → Leads d.plan.mode b.number (sight_of (terms_of d.plan) b.number None) row f (Shared made.found) e Any) → Moves d v l e (calls_of a) a b
   first_moves e leads =
-      moves_at d v l a b rest of (begin d.plan.mode (calls_of a) v l) (Shared made.found) first_is row (calls_of a) first_at refl e (leads first_at.frame)
+      moves_at d v l a b rest of (begin d.plan.mode (calls_of a) v l) (Shared made.found) first_is row (calls_of a) first_at e (leads first_at.on.frame)
 
   pub first_misses : ((f : Frame) → Fails d.plan.mode b.number (sight_of (terms_of d.plan) b.number None) row f (Shared made.found)) → Misses d v l (calls_of a) a b
   first_misses fails =
-      misses_at d v l a b rest of (begin d.plan.mode (calls_of a) v l) (Shared made.found) first_is row (calls_of a) first_at refl (fails first_at.frame)
+      misses_at d v l a b rest of (begin d.plan.mode (calls_of a) v l) (Shared made.found) first_is row (calls_of a) first_at (fails first_at.on.frame)
 
 -- one that goes on
-module _ (d : Domain) (v : Verb) (l : ℕ) (a b : Cpu) (rest : KeepsRest a b) (of : IsOf a d) (takes : is_taking v ≡ true)
-    (no : takes_wait v ≡ false) {met : ℕ} (made : SharedBy v l a.seat.me met b.seat.me) (c : Pc) (old : Calls)
+module _ (d : Domain) (v : Verb) (l : ℕ) (a b : Cpu) (rest : KeepsRest a b) (of : IsOf a d) {met : ℕ} (made : SharedBy v l a.seat.me met b.seat.me) (c : Pc) (old : Calls)
     (at : WaitsAt d v l c old a) where
-  on_at : IsOn (terms_of d.plan) b.number v (lock_name l) c Any Outside old (calls_of a)
-  on_at = subst (λ (m : ℕ). IsOn (terms_of d.plan) m v (lock_name l) c Any Outside old (calls_of a)) (sym rest.same.number) (path.on_of at no)
+  on_at : IsAt (terms_of d.plan) b.number v l c Any old (calls_of a)
+  on_at = subst (λ (m : ℕ). IsAt (terms_of d.plan) m v l c Any old (calls_of a)) (sym rest.same.number) at
 
   on_is : view_of b ≡ rowed (view_of a) (calls_of a) (Shared made.found)
-  on_is = step.on_shared d v (lock_name l) a b rest of made takes on_at
+  on_is = step.on_shared d v (lock_name l) a b rest of made on_at.on
 
   pub on_moves : (e : Pc) → ((f : Frame) → Leads d.plan.mode b.number (way.sees d a b) c f (Shared made.found) e Any) → Moves d v l e old a b
-  on_moves e leads = moves_at d v l a b rest of (calls_of a) (Shared made.found) on_is c old on_at at.taken e (leads on_at.frame)
+  on_moves e leads = moves_at d v l a b rest of (calls_of a) (Shared made.found) on_is c old on_at e (leads on_at.on.frame)
 
   pub on_gains : (m : Manner) → ((f : Frame) → TakesBy d.plan.mode b.number (way.sees d a b) c f (Shared made.found) m None) → Gains d v l m old a b
-  on_gains m takes = gains_at d v l a b rest of (calls_of a) (Shared made.found) on_is c old on_at at.taken m (takes on_at.frame)
+  on_gains m takes = gains_at d v l a b rest of (calls_of a) (Shared made.found) on_is c old on_at m (takes on_at.on.frame)
 
   pub on_misses : ((f : Frame) → Fails d.plan.mode b.number (way.sees d a b) c f (Shared made.found)) → Misses d v l old a b
-  on_misses fails = misses_at d v l a b rest of (calls_of a) (Shared made.found) on_is c old on_at at.taken (fails on_at.frame)
+  on_misses fails = misses_at d v l a b rest of (calls_of a) (Shared made.found) on_is c old on_at (fails on_at.on.frame)
 
 -- a release, which begins and ends in one step
 
@@ -205,10 +202,10 @@ leaves {v} {c} lets d l a b of made =
     unlocks writer l = not_unlocking WUnlock refl (calls_of a).frames l (apart_of a d of)
 
 -- what is asked of a try that goes on
-pub acts_try : (d : Domain) (v : Verb) (l : ℕ) (c : Pc) (a : Cpu) (old : Calls) → WaitsAt d v l c old a → takes_wait v ≡ false
+pub acts_try : (d : Domain) (v : Verb) (l : ℕ) (c : Pc) (a : Cpu) (old : Calls) → WaitsAt d v l c old a
     → (kind : Pc → Bool) → kind c ≡ true → ActsFor kind (view_of a) v l
-acts_try d v l c a old at off kind is =
-    rw.acts_for d v (lock_name l) c Any Outside a (old, path.on_of at off) kind is
+acts_try d v l c a old at kind is =
+    rw.acts_for d v (lock_name l) c Any Outside a (old, at.on) kind is
 
 -- it does not depend on what waits
 

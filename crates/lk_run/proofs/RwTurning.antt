@@ -11,13 +11,12 @@ use Rattle.lk_domain.specs.Seats.{calls_of}
 use Rattle.lk_domain.specs.declared.cpu.Cpu.{Cpu}
 use Rattle.lk_domain.specs.declared.domain.Domain.{Domain}
 use Rattle.lk_domain.specs.declared.plan.Plan.{Plan}
-use Rattle.lk_run.specs.Phases.{Start, HasPolled}
+use Rattle.lk_run.specs.Phases.{Start, HasPolled, Waiter}
 use Rattle.lk_run.specs.Polls.{GivesWay}
 use Rattle.lk_run.specs.PolledRead as read
 use Rattle.lk_run.specs.PolledRead.{Alone, Nested}
 use Rattle.lk_run.specs.PolledWrite as write
 use Rattle.lk_run.specs.Resting.{row_at, frame_at}
-use Rattle.lk_run.specs.Standing.{Waiter}
 use Rattle.lk_run.specs.Turns.{Stands}
 use Rattle.lk_run.specs.Waiters.{Waits, At}
 use Rattle.lk_run.specs.declared.read_waiter.ReadPlace.{ReadPlace}

@@ -1,7 +1,7 @@
 -- What a step call of a processor does to its call that waits.
-use Rattle.std.proofs.Common.{◌≡◌, ℕ, zero, suc, List, [], ◌∷◌, ◌++◌, length, Option, Bool, true, false, eqb, eq-eqb, refl, sym, ap, ◌∙◌, subst, arith}
+use Rattle.std.proofs.Common.{◌≡◌, ℕ, zero, suc, [], ◌∷◌, ◌++◌, length, Option, Bool, true, false, eqb, refl, sym, ap, ◌∙◌, subst, arith}
 use Rattle.std.proofs.Common.{◌||◌}
-use Rattle.std.specs.Prelude.{if◌then◌else◌, ◌&&◌, None, Some}
+use Rattle.std.specs.Prelude.{◌&&◌, None, Some}
 use Rattle.lk_names.specs.declared.names.LockName.{LockName}
 use Rattle.lk_names.specs.declared.names.Mode.{Mode}
 use Rattle.lk_rows.specs.Moves.{first_place, wait_name}
@@ -15,36 +15,27 @@ use Rattle.lk_law.specs.Leads.{Met, Word, Shared}
 use Rattle.lk_law.specs.Sound.{takes_wait}
 use Rattle.lk_domain.specs.Calls.{told, told_by}
 use Rattle.lk_domain.proofs.rows.Users.{told_on}
-use Rattle.lk_domain.specs.Calls.{terms_of, sight_of, Terms, mark, Running, Calls, acting, begin, is_on, waits_in, holds_in, lock_name, held_in, StandsOn}
+use Rattle.lk_domain.specs.Calls.{terms_of, sight_of, mark, Calls, acting, begin, waits_in, holds_in, lock_name, held_in, StandsOn}
 use Rattle.lk_domain.specs.Paths.{Passes, is_busy, Any, next_frame}
 use Rattle.lk_domain.specs.Plays.{ActsIn, MadeBy, made, rowed}
 use Rattle.lk_domain.specs.RwPlays.{SharedBy}
 use Rattle.lk_domain.specs.NodePlays.{AtRow, counting}
 use Rattle.lk_domain.specs.Rows.{looks_by, takes_by, is_watch, is_swap}
 use Rattle.lk_domain.specs.Seats.{IsOf, KeepsRest, calls_of, ledger_of, view_of}
+use Rattle.lk_domain.specs.Standing.{Stage, Outside, Inside, IsOn}
 use Rattle.lk_domain.specs.declared.cpu.Cpu.{Cpu}
 use Rattle.lk_domain.specs.declared.domain.Domain.{Domain}
 use Rattle.lk_domain.specs.declared.plan.Plan.{Plan}
 use Rattle.lk_domain.specs.declared.view.View.{View}
-use Rattle.lk_domain.proofs.Acting.{acts_on, begins_on}
-use Rattle.lk_domain.proofs.Paths as domain_path
-use Rattle.lk_domain.proofs.Turned.{is_taking, verb_self}
+use Rattle.lk_domain.proofs.Acting.{acting_is, acts_on, begins_on}
+use Rattle.lk_domain.proofs.Standing as path
+use Rattle.lk_domain.proofs.Turned.{is_taking}
 use Rattle.lk_run.specs.Polls.{RisesBy, HasStayed, Acquires, GivesWay}
-use Rattle.lk_run.specs.Phases.{Start, newest, StandsAs, OwesPoll, HasPolled, Waits, Won, Queues, starting}
-use Rattle.lk_run.specs.Standing.{Stage, Outside, Inside, IsOn, waiter}
+use Rattle.lk_run.specs.Phases.{Start, newest, StandsAs, OwesPoll, HasPolled, Waits, Won, Queues, starting, waiter}
 use Rattle.lk_run.proofs.Polls.{falls_none, acquired, recount}
-use Rattle.lk_run.proofs.Standing as path
 use Rattle.lk_run.proofs.Steps.{passes_none}
 use Rattle.lk_run.proofs.Ways as way
 use Rattle.lk_run.proofs.Ways.{Leads, Ends, queues_patient, queues_inside, queues_looks, queues_swaps, then_is}
-
--- the newest call is that of the operation on this lock, so it goes on
-pub goes_on : (mode' : Mode) {terms : Terms} {p : ℕ} {v : Verb} {n : LockName} {pl : Pc} {P : Frame → Type 0} {stage : Stage} {old c : Calls}
-    → IsOn terms p v n pl P stage old c → is_taking v ≡ true → acting mode' c v n.index ≡ c
-goes_on mode' {v} {n} {c} at t =
-    ap (λ b. if b then c else begin mode' c v n.index)
-    (ap (λ (xs : List Running). is_on xs v n.index) at.frames
-    ∙ (λ i. verb_self v t i && eq-eqb at.frame.lock.index n.index (ap (λ (z : LockName). z.index) at.lock) i))
 
 -- a step of a processor of the domain
 module _ (d : Domain) (v : Verb) (n : LockName) (a b : Cpu) (rest : KeepsRest a b) (of : IsOf a d) where
@@ -100,19 +91,19 @@ module _ (d : Domain) (v : Verb) (n : LockName) (a b : Cpu) (rest : KeepsRest a 
     acted is = (λ i. (seat i).0)
         ∙ ap (λ z. rowed (view_of a) z x) (ap (λ (m : Mode). acting m (calls_of a) v n.index) is_mode ∙ is)
 
-    on_it : {c : Pc} {P : Frame → Type 0} {stage : Stage} {m : ℕ} {old : Calls} → is_taking v ≡ true
+    on_it : {c : Pc} {P : Frame → Type 0} {stage : Stage} {m : ℕ} {old : Calls}
         → IsOn (terms_of d.plan) m v n c P stage old (calls_of a) → view_of b ≡ rowed (view_of a) (calls_of a) x
-    on_it takes at = acted (goes_on d.plan.mode at takes)
+    on_it {c} at = acted (acting_is (calls_of a) v n c (path.stands at) d.plan.mode)
 
     first_of_it : waits_in (calls_of a).frames n.index ≡ false
         → view_of b ≡ rowed (view_of a) (begin d.plan.mode (calls_of a) v n.index) x
-    first_of_it none = acted (domain_path.acts_begin d.plan.mode (calls_of a) v n.index none)
+    first_of_it none = acted (path.acts_begin d.plan.mode (calls_of a) v n.index none)
 
   -- on that of a spinlock or a wait lock
   module _ {met : ℕ} (made : MadeBy v n.index a.seat.me met b.seat.me) where
-    pub on_word : {c : Pc} {P : Frame → Type 0} {stage : Stage} {m : ℕ} {old : Calls} → is_taking v ≡ true
+    pub on_word : {c : Pc} {P : Frame → Type 0} {stage : Stage} {m : ℕ} {old : Calls}
         → IsOn (terms_of d.plan) m v n c P stage old (calls_of a) → view_of b ≡ rowed (view_of a) (calls_of a) (Word made.found)
-    on_word takes at = on_it (Word made.found) made.seat takes at
+    on_word at = on_it (Word made.found) made.seat at
 
     pub first_word : waits_in (calls_of a).frames n.index ≡ false
         → view_of b ≡ rowed (view_of a) (begin d.plan.mode (calls_of a) v n.index) (Word made.found)
@@ -120,9 +111,9 @@ module _ (d : Domain) (v : Verb) (n : LockName) (a b : Cpu) (rest : KeepsRest a 
 
   -- on that of a reader-writer lock
   module _ {met : ℕ} (made : SharedBy v n.index a.seat.me met b.seat.me) where
-    pub on_shared : {c : Pc} {P : Frame → Type 0} {stage : Stage} {m : ℕ} {old : Calls} → is_taking v ≡ true
+    pub on_shared : {c : Pc} {P : Frame → Type 0} {stage : Stage} {m : ℕ} {old : Calls}
         → IsOn (terms_of d.plan) m v n c P stage old (calls_of a) → view_of b ≡ rowed (view_of a) (calls_of a) (Shared made.found)
-    on_shared takes at = on_it (Shared made.found) made.seat takes at
+    on_shared at = on_it (Shared made.found) made.seat at
 
     pub first_shared : waits_in (calls_of a).frames n.index ≡ false
         → view_of b ≡ rowed (view_of a) (begin d.plan.mode (calls_of a) v n.index) (Shared made.found)
@@ -136,7 +127,7 @@ module _ (d : Domain) (v : Verb) (l : ℕ) (a b : Cpu) (rest : KeepsRest a b) (o
   row = first_place d.plan.mode v
 
   pub first : IsOn (terms_of d.plan) b.number v (lock_name l) row Any Outside (calls_of a) (begin d.plan.mode (calls_of a) v l)
-  first = path.starts (terms_of d.plan) b.number v l (calls_of a) takes free
+  first = (path.starts (terms_of d.plan) b.number v l (calls_of a) takes free).on
 
   pub none_yet : (y : Met) (r k : ℕ) → HasStayed k ([] ++ mark row y r ∷ []) → RisesBy k told told
   none_yet y r zero h = falls_none told

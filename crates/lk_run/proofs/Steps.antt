@@ -1,5 +1,5 @@
 -- What a step of a processor does to a call.
-use Rattle.std.proofs.Common.{◌≡◌, ℕ, ◌<◌, List, [], ◌∷◌, ◌++◌, Bool, true, false, eqb, refl, sym, ap, ◌∙◌, subst, arith}
+use Rattle.std.proofs.Common.{◌≡◌, ℕ, ◌<◌, List, [], ◌++◌, append-nil, append_assoc, Bool, true, false, eqb, refl, sym, ap, ◌∙◌, subst, arith}
 use Rattle.std.proofs.Common.{◌||◌}
 use Rattle.lk_names.specs.declared.holder.Manner.{Manner}
 use Rattle.lk_names.specs.declared.holder.Manner.TheVariants.{Spins}
@@ -11,11 +11,12 @@ use Rattle.lk_names.specs.declared.names.Kind.TheVariants.{Spin}
 use Rattle.lk_domain.specs.Plans.{kind_at}
 use Rattle.lk_domain.specs.Calls.{terms_of, Mark, Calls, Takes, lock_name}
 use Rattle.lk_domain.specs.Ledgers.{Ledger, Look, turned}
-use Rattle.lk_domain.specs.Paths.{IsAt, HasTaken, HasMissed, Any, Passes, is_busy, HasLooked}
+use Rattle.lk_domain.specs.Paths.{HasTaken, HasMissed, Any, Passes, is_busy, HasLooked}
 use Rattle.lk_domain.specs.Plays.{Acts, ActsOn, ActsIn}
 use Rattle.lk_domain.specs.Rows.{queues_up, looks_by}
 use Rattle.lk_domain.specs.declared.view.View.{View}
 use Rattle.lk_domain.specs.Seats.{IsOf, KeepsRest, view_of, calls_of}
+use Rattle.lk_domain.specs.Standing.{IsAt}
 use Rattle.lk_domain.specs.Waits.{MayTake, Moves, Gains, Misses}
 use Rattle.lk_domain.specs.declared.cpu.Cpu.{Cpu}
 use Rattle.lk_domain.specs.declared.domain.Domain.{Domain}
@@ -72,15 +73,20 @@ module _ (d : Domain) (v : Verb) (l : ℕ) (old : Calls) (a b : Cpu) (rest : Kee
         ledger = m.ledger;
       }
 
+-- the step behind one that moved, as one from where that began
+module _ {d : Domain} {v : Verb} {l : ℕ} {c : Pc} {old : Calls} {a b e : Cpu} (move : Moves d v l c old a b) where
+  pub then_gains : (m : Manner) → Gains d v l m old b e → Gains d v l m old a e
+  then_gains m gain =
+      record {
+        taken = gain.taken;
+        once = gain.once;
+        ledger = gain.ledger ∙ ap (λ g. turned g (lock_name l) (Takes m) (calls_of e).last) move.ledger;
+      }
+
+  pub then_misses : Misses d v l old b e → Misses d v l old a e
+  then_misses miss = record { missed = miss.missed; ledger = miss.ledger ∙ move.ledger }
+
 -- what nested calls leave of the ledger
-
-append_nil : {A : Type 0} (xs : List A) → xs ++ [] ≡ xs
-append_nil [] = refl
-append_nil (x ∷ xs) = ap (λ l. x ∷ l) (append_nil xs)
-
-append_more : {A : Type 0} (xs ys zs : List A) → (xs ++ ys) ++ zs ≡ xs ++ (ys ++ zs)
-append_more [] ys zs = refl
-append_more (x ∷ xs) ys zs = ap (λ l. x ∷ l) (append_more xs ys zs)
 
 pub passes_none : (b : Bool) (g h : Ledger) → h ≡ g → Passes b g h
 passes_none b g h e =
@@ -91,7 +97,7 @@ passes_none b g h e =
       look = ap (λ (x : Ledger). x.look) e;
       seen = let z = ap (λ (x : Ledger). x.seen) e in omega arith;
       more = [];
-      looks = ap (λ (x : Ledger). x.looks) e ∙ sym (append_nil g.looks);
+      looks = ap (λ (x : Ledger). x.looks) e ∙ sym (append-nil g.looks);
       still = λ _. e;
     }
 
@@ -104,7 +110,7 @@ passes_both b g h i p q =
       look = q.look ∙ p.look;
       seen = let x = p.seen in let y = q.seen in omega arith;
       more = p.more ++ q.more;
-      looks = q.looks ∙ (ap (λ (xs : List Look). xs ++ q.more) p.looks ∙ append_more g.looks p.more q.more);
+      looks = q.looks ∙ (ap (λ (xs : List Look). xs ++ q.more) p.looks ∙ append_assoc g.looks p.more q.more);
       still = λ e. q.still e ∙ p.still e;
     }
 

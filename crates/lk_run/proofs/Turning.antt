@@ -8,13 +8,13 @@ use Rattle.lk_rows.specs.declared.setup.Verb.{Verb}
 use Rattle.lk_domain.specs.Calls.{Running, told}
 use Rattle.lk_domain.specs.Paths.{Any, AreKept}
 use Rattle.lk_domain.specs.Seats.{IsOf, KeepsRest, calls_of, ledger_of, view_of}
+use Rattle.lk_domain.specs.Standing.{Outside, locks_at}
 use Rattle.lk_domain.specs.declared.cpu.Cpu.{Cpu}
 use Rattle.lk_domain.specs.declared.domain.Domain.{Domain}
 use Rattle.lk_domain.specs.declared.plan.Plan.{Plan}
-use Rattle.lk_run.specs.Phases.{Start, OwesPoll, HasPolled, newest}
+use Rattle.lk_run.specs.Phases.{Start, OwesPoll, HasPolled, newest, Waiter, waiter}
 use Rattle.lk_run.specs.Polls.{GivesWay}
 use Rattle.lk_run.specs.Resting.{Arrived, Came, Fits, KnowsIn, Rests, Owes, RestsAt, Turns, Turned, row_at, frame_at}
-use Rattle.lk_run.specs.Standing.{Outside, Waiter, waiter, locks_at}
 use Rattle.lk_run.specs.Turns.{Turn, Path, Earns, Begun}
 use Rattle.lk_run.specs.Words.{At, Meets, Steps, LooksOn, Takes}
 use Rattle.lk_run.specs.declared.call.Call.{Call}

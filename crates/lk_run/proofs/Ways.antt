@@ -24,21 +24,22 @@ use Rattle.lk_domain.specs.Calls.{terms_of, sight_of, read_at, grip_of, Mark, ma
 use Rattle.lk_domain.specs.Calls.{row_of, row_on, row_at, after, frames_after, taken_after, Grip, Unchanged, Takes}
 use Rattle.lk_domain.specs.Ledgers.{Ledger, turned}
 use Rattle.lk_domain.specs.NodePlays.{readies}
-use Rattle.lk_domain.specs.Paths.{next_frame, row_grip, HasTaken, Any, Passes, is_busy}
+use Rattle.lk_domain.specs.Paths.{next_frame, row_grip, Any, Passes, is_busy}
 use Rattle.lk_domain.specs.Plays.{rowed, turned_of, turned_on, turned_at}
 use Rattle.lk_domain.specs.Rows.{queues_up, is_patient, looks_by, takes_by, is_watch, is_swap}
 use Rattle.lk_law.specs.Premises.{IsThen}
+use Rattle.lk_domain.proofs.Standing as path
 use Rattle.lk_domain.proofs.Turned.{is_taking}
 use Rattle.lk_domain.specs.Seats.{IsOf, KeepsRest, calls_of, ledger_of, view_of}
+use Rattle.lk_domain.specs.Standing.{Stage, Outside, Inside, IsOn, locks_at}
 use Rattle.lk_domain.specs.Views.{own_number}
 use Rattle.lk_domain.specs.declared.cpu.Cpu.{Cpu}
 use Rattle.lk_domain.specs.declared.domain.Domain.{Domain}
 use Rattle.lk_domain.specs.declared.view.View.{View}
 use Rattle.lk_run.specs.Polls.{NeverFalls, RisesBy, HasStayed, Acquires, GivesWay}
-use Rattle.lk_run.specs.Phases.{Start, newest, OwesPoll, HasPolled, Holds, Won, Queues, resumes}
-use Rattle.lk_run.specs.Standing.{Stage, Outside, Inside, IsOn, locks_at, waiter}
+use Rattle.lk_run.specs.Phases.{Start, newest, OwesPoll, HasPolled, Holds, Won, Queues, resumes, waiter}
 use Rattle.lk_run.proofs.Polls.{rises_after, falls_after, stays_before, more_after, polled_by, recount}
-use Rattle.lk_run.proofs.Standing as path
+use Rattle.lk_run.proofs.Standing.{grants as grants_it}
 use Rattle.lk_run.proofs.Steps.{passes_none, passes_both, looked}
 
 -- where a row leads that goes on, and what its frame then is
@@ -184,7 +185,7 @@ module _ (d : Domain) (v : Verb) (n : LockName) (a b : Cpu) (rest : KeepsRest a 
       ∙ ap (λ q. newest (frames_after v (next_frame mode b.number z c f x) trail old.frames q)) place))
 
   pub last_is : (next_frame mode b.number z c f x).place ≡ None → (calls_of b).last ≡ trail
-  last_is place = ap (λ (z : Calls). z.last) calls ∙ path.last_is at x place
+  last_is place = path.last_is at x calls place
 
 pub none_more : (m : ℕ) → m ≡ m + 0
 none_more m = omega arith
@@ -223,8 +224,7 @@ module _ (d : Domain) (v : Verb) (n : LockName) (a b : Cpu) (rest : KeepsRest a 
   pub counts : (y : Grip) (m : ℕ) → row_grip mode' b.number z' c f' x ≡ y
       → taken_after y was.taken ≡ was.taken + m → Acquires s.nests (locks_at stage + m) s.calls (calls_of b) s.told told
   counts y m grip more =
-      let now : (calls_of b).taken ≡ was.taken + m =
-      ap (λ (z : Calls). z.taken) (calls d v n a b rest of was x step c P stage s.calls at) ∙ (path.count_after at x y grip ∙ more) in
+      let now : (calls_of b).taken ≡ was.taken + m = path.count_after at x (calls d v n a b rest of was x step c P stage s.calls at) y grip ∙ more in
       recount s.nests (locks_at stage) (locks_at stage + m) s.calls was (calls_of b) s.told told once (λ e. omega (arith, now, e))
 
   -- the ledger of a row that begins and ends no look
@@ -238,8 +238,7 @@ module _ (d : Domain) (v : Verb) (n : LockName) (a b : Cpu) (rest : KeepsRest a 
   goes_to : (e : Pc) (Q : Frame → Type 0) → Leads mode' b.number z' c f' x e Q → OwesPoll (waiter stage d v n) e Q s b told
   goes_to e Q leads =
       record {
-        at = subst (IsOn (terms_of d.plan) b.number v n e Q stage s.calls) (sym (calls d v n a b rest of was x step c P stage s.calls at))
-            (path.goes at x e Q leads.place leads.grip leads.lock leads.after leads.has);
+        at = path.goes at x (calls d v n a b rest of was x step c P stage s.calls at) e Q leads.place leads.grip leads.lock leads.after leads.has;
         passes = passed leads.grip;
         falls = falls;
         stays = polls_over (grows d v n a b rest of was x step c P stage s.calls at e leads.place);
@@ -279,9 +278,7 @@ module _ (d : Domain) (v : Verb) (n : LockName) (a b : Cpu) (rest : KeepsRest a 
       ends.place ∙ if-false at.frame.lock.wait at.frame.then None (wait_is ∙ plain) in
       let last = last_is d v n a b rest of was x step c P Outside s.calls at place in
       record {
-        taken = subst (λ (z : Calls). HasTaken (terms_of d.plan) b.number v n.index Spins s.calls z)
-            (sym (calls d v n a b rest of was x step c P Outside s.calls at))
-            (path.takes at x Spins ends.grip place (ends.own ∙ (at.lock ∙ name)));
+        taken = path.takes at x (calls d v n a b rest of was x step c P Outside s.calls at) Spins place ends.grip (ends.own ∙ (at.lock ∙ name));
         look = looked n.index Spins s.calls (calls_of b).last s.ledger (ledger_of a) (ledger_of b) passes
             (now ∙ ((λ i. turned (ledger_of a) (name i) (Takes Spins) (at.trail ++ marked d b was c x ∷ []))
             ∙ ap (λ ms. turned (ledger_of a) (lock_name n.index) (Takes Spins) ms) (sym last)));
@@ -300,9 +297,7 @@ module _ (d : Domain) (v : Verb) (n : LockName) (a b : Cpu) (rest : KeepsRest a 
       ends.place ∙ (if-true at.frame.lock.wait at.frame.then None (wait_is ∙ wait) ∙ (at.after wait ∙ next_is v n queues wait)) in
       subst (λ (z : LockName). HasPolled (waiter Inside d v z) (resumes v) Any s b told) name (record {
         looked = record {
-          at = subst (IsOn (terms_of d.plan) b.number v n (resumes v) Any Inside s.calls)
-              (sym (calls d v n a b rest of was x step c P Outside s.calls at))
-              (path.grants at x Spins ends.grip refl (resumes v) place (ends.own ∙ at.lock) ends.lock ends.after);
+          at = grants_it at x (calls d v n a b rest of was x step c P Outside s.calls at) (resumes v) place ends.grip (ends.own ∙ at.lock) ends.lock ends.after;
           passes = passes_both ((eqb n.index 0) || is_busy s.calls) s.ledger (ledger_of a) (ledger_of b) passes
               (passes_none ((eqb n.index 0) || is_busy s.calls) (ledger_of a) (ledger_of b)
               (now ∙ wait_turned (ledger_of a) n (Takes Spins) (at.trail ++ marked d b was c x ∷ []) wait));

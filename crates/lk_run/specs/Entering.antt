@@ -1,6 +1,6 @@
 -- What a call has done that took a reader-writer lock: where its rows took the lock, and how they
 -- went on from there.
-use Rattle.std.specs.Prelude.{◌≡◌, ◌⊎◌, ℕ, ◌<◌, false, List, [], ◌∷◌, ◌++◌, length, Option, Some, None}
+use Rattle.std.specs.Prelude.{◌≡◌, ◌⊎◌, ℕ, ◌<◌, false, List, [], ◌∷◌, ◌++◌, length}
 use Rattle.lk_names.specs.declared.holder.Manner.{Manner}
 use Rattle.lk_rows.specs.declared.parts.Frame.{Frame}
 use Rattle.lk_rows.specs.declared.parts.Pc.{Pc}
@@ -8,38 +8,16 @@ use Rattle.lk_rows.specs.declared.parts.Pc.TheVariants.{U1}
 use Rattle.lk_rows.specs.declared.setup.Verb.{Verb}
 use Rattle.lk_law.specs.Leads.{Met, Shared}
 use Rattle.lk_word.specs.declared.rw_word.RwFields.{RwFields}
-use Rattle.lk_domain.specs.Calls.{read_at, sight_of, Terms, Mark, mark, hold, Calls, Takes, Frees, begun, lock_name}
+use Rattle.lk_domain.specs.Calls.{Terms, Mark, mark, hold, Calls, Grip, Takes, Frees, begun, lock_name}
 use Rattle.lk_domain.specs.Calls.{free_of, moved_to, holds_in}
 use Rattle.lk_domain.specs.Ledgers.{turned}
-use Rattle.lk_domain.specs.Paths.{Walk, next_frame, row_grip}
+use Rattle.lk_domain.specs.Paths.{PathTo, Path}
 use Rattle.lk_domain.specs.Seats.{calls_of, ledger_of}
 use Rattle.lk_domain.specs.declared.cpu.Cpu.{Cpu}
 
--- the rows of the trail lead from the frame a to a row that takes a lock in this manner; the call may
--- go on from there
-pub record PathTo (t : Terms) (p : ℕ) (a : Frame) (trail : List Mark) (manner : Manner)
-    : Type 0 where
-  pub before : List Mark
-  pub frame : Frame
-  pub row : Pc
-  pub met : Met
-  pub runs : Option ℕ
-  pub walk : Walk t p a before frame
-  pub place : frame.place ≡ Some row
-  pub is : trail ≡ before ++ mark row met (read_at row (sight_of t p runs)) ∷ []
-  pub grips : row_grip t.mode p (sight_of t p runs) row frame met ≡ Takes manner
-
 -- the rows of the trail lead from the frame a to a row that ends the call
-pub record Over (t : Terms) (p : ℕ) (a : Frame) (trail : List Mark) : Type 0 where
-  pub before : List Mark
-  pub frame : Frame
-  pub row : Pc
-  pub met : Met
-  pub runs : Option ℕ
-  pub walk : Walk t p a before frame
-  pub place : frame.place ≡ Some row
-  pub is : trail ≡ before ++ mark row met (read_at row (sight_of t p runs)) ∷ []
-  pub ends : (next_frame t.mode p (sight_of t p runs) row frame met).place ≡ None
+abbrev pub Over : Terms → ℕ → Frame → List Mark → Type 0
+Over t p a trail = (grip : Grip) × Path t p a trail grip
 
 -- no row more, or the one by which the wait lock is freed
 abbrev pub FreesWait : List Mark → Type 0
@@ -49,7 +27,7 @@ FreesWait behind = (behind ≡ []) ⊎ ((x : Met) × (behind ≡ mark U1 x 0 ∷
 -- wait lock then, it has freed that, and is over.
 pub record HasEntered (t : Terms) (p : ℕ) (v : Verb) (l : ℕ) (manner : Manner)
     (upto : List Mark) (old new : Calls) : Type 0 where
-  pub takes : PathTo t p (begun t.mode (length old.frames) v l) upto manner
+  pub takes : PathTo t p (begun t.mode (length old.frames) v l) upto (Takes manner)
   pub over : Over t p (begun t.mode (length old.frames) v l) new.last
   pub behind : List Mark
   pub last : new.last ≡ upto ++ behind

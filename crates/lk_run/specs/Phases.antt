@@ -17,15 +17,15 @@ use Rattle.lk_rows.specs.declared.setup.Verb.TheVariants.{Lock, Read, Write}
 use Rattle.lk_rows.specs.rows.Spin.{after_fast}
 use Rattle.lk_law.specs.Leads.{Met}
 use Rattle.lk_domain.specs.Plans.{layout_in}
-use Rattle.lk_domain.specs.Calls.{terms_of, Terms, Mark, mark, Running, Calls, begun, told}
+use Rattle.lk_domain.specs.Calls.{terms_of, Terms, Mark, mark, Running, Calls, Takes, begun, told}
 use Rattle.lk_domain.specs.Ledgers.{Ledger}
-use Rattle.lk_domain.specs.Paths.{Any, HasTaken, HasLooked, Passes, is_busy}
+use Rattle.lk_domain.specs.Paths.{Any, PathTo, HasTaken, HasLooked, Passes, is_busy}
 use Rattle.lk_domain.specs.Seats.{calls_of, ledger_of}
+use Rattle.lk_domain.specs.Standing.{Stage, Outside, Inside, Entered, IsOn, locks_at}
 use Rattle.lk_domain.specs.declared.cpu.Cpu.{Cpu}
 use Rattle.lk_domain.specs.declared.domain.Domain.{Domain}
 use Rattle.lk_run.specs.Polls.{NeverFalls, RisesBy, HasStayed, IsPolled, Acquires}
-use Rattle.lk_run.specs.Standing.{Stage, Outside, Inside, Entered, Waiter, waiter, IsOn, locks_at}
-use Rattle.lk_run.specs.Entering.{PathTo, HasEntered}
+use Rattle.lk_run.specs.Entering.{HasEntered}
 
 -- what was there when the call began: the processor's calls, what it knew of the ledger, whether what
 -- interrupts the call may make calls itself, and what the interrupt source told of its polls
@@ -34,6 +34,16 @@ pub record Start : Type 0 where
   pub ledger : Ledger
   pub nests : Bool
   pub told : Option ℕ
+
+-- which call waits: what of its lock it has, its domain, its operation, and the lock on which it acts
+pub record Waiter : Type 0 where
+  pub stage : Stage
+  pub domain : Domain
+  pub verb : Verb
+  pub lock : LockName
+
+abbrev pub waiter : Stage → Domain → Verb → LockName → Waiter
+waiter stage domain verb lock = record { stage = stage; domain = domain; verb = verb; lock = lock }
 
 -- The operation may queue for the lock of this name: `lock` for the lock itself, and a reader or a
 -- writer for the wait lock.
@@ -115,7 +125,7 @@ pub record CameIn (domain : Domain) (v : Verb) (l : ℕ) (manner : Manner) (s : 
 pub record HasPassed (t : Terms) (p : ℕ) (v : Verb) (l : ℕ) (manner : Manner) (s : Start)
     (calls : Calls) (ledger : Ledger) (told : Option ℕ) : Type 0 where
   pub at : IsOn t p v (wait_name l) U1 Any (Entered manner) s.calls calls
-  pub takes : PathTo t p (begun t.mode (length s.calls.frames) v l) at.trail manner
+  pub takes : PathTo t p (begun t.mode (length s.calls.frames) v l) at.trail (Takes manner)
   pub taken : s.calls.taken < calls.taken
   pub look : HasLooked l manner s.calls at.trail s.ledger ledger
   pub falls : NeverFalls s.told told

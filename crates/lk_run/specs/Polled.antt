@@ -3,11 +3,11 @@ use Rattle.std.specs.Prelude.{◌≡◌, ℕ, ◌+◌, ◌<◌, Option, Some, No
 use Rattle.lk_rows.specs.declared.setup.Verb.TheVariants.{Lock}
 use Rattle.lk_domain.specs.Calls.{Calls, lock_name}
 use Rattle.lk_domain.specs.Plans.{locks_of}
+use Rattle.lk_domain.specs.Standing.{Outside}
 use Rattle.lk_domain.specs.declared.cpu.Cpu.{Cpu}
 use Rattle.lk_domain.specs.declared.domain.Domain.{Domain}
-use Rattle.lk_run.specs.Phases.{Start}
+use Rattle.lk_run.specs.Phases.{Start, waiter}
 use Rattle.lk_run.specs.Phases as phase
-use Rattle.lk_run.specs.Standing.{Outside, waiter}
 use Rattle.lk_run.specs.Resting.{HasNodes, KnowsAt, row_at, frame_at}
 use Rattle.lk_run.specs.declared.waiter.Waiter.{Waiter}
 

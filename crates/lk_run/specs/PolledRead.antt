@@ -8,14 +8,14 @@ use Rattle.lk_rows.specs.declared.setup.Verb.TheVariants.{Read}
 use Rattle.lk_domain.specs.Calls.{lock_name}
 use Rattle.lk_domain.specs.Paths.{Any}
 use Rattle.lk_domain.specs.Plans.{locks_of}
+use Rattle.lk_domain.specs.Standing.{Inside, Outside}
 use Rattle.lk_domain.specs.declared.cpu.Cpu.{Cpu}
 use Rattle.lk_domain.specs.declared.domain.Domain.{Domain}
 use Rattle.lk_domain.specs.declared.plan.Plan.{Plan}
-use Rattle.lk_run.specs.Phases.{Start, OwesPoll, HasPolled, CameIn, biased}
+use Rattle.lk_run.specs.Phases.{Start, OwesPoll, HasPolled, CameIn, biased, Waiter, waiter}
 use Rattle.lk_run.specs.Phases as phase
 use Rattle.lk_run.specs.Resting as rest
 use Rattle.lk_run.specs.Resting.{row_at, frame_at}
-use Rattle.lk_run.specs.Standing.{Inside, Outside, Waiter, waiter}
 use Rattle.lk_run.specs.declared.rest.Rest.{Rest}
 use Rattle.lk_run.specs.declared.read_waiter.ReadPlace.{ReadPlace}
 use Rattle.lk_run.specs.declared.read_waiter.ReadPlace.TheVariants as place

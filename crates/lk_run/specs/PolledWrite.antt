@@ -7,13 +7,13 @@ use Rattle.lk_rows.specs.declared.parts.Pc.TheVariants.{F1, Wr5}
 use Rattle.lk_rows.specs.declared.setup.Verb.TheVariants.{Write}
 use Rattle.lk_domain.specs.Paths.{Any}
 use Rattle.lk_domain.specs.Plans.{locks_of}
+use Rattle.lk_domain.specs.Standing.{Inside, Outside}
 use Rattle.lk_domain.specs.declared.cpu.Cpu.{Cpu}
 use Rattle.lk_domain.specs.declared.domain.Domain.{Domain}
 use Rattle.lk_domain.specs.declared.plan.Plan.{Plan}
-use Rattle.lk_run.specs.Phases.{Start, OwesPoll, HasPolled, CameIn}
+use Rattle.lk_run.specs.Phases.{Start, OwesPoll, HasPolled, CameIn, Waiter, waiter}
 use Rattle.lk_run.specs.Resting as rest
 use Rattle.lk_run.specs.Resting.{row_at, frame_at}
-use Rattle.lk_run.specs.Standing.{Inside, Outside, Waiter, waiter}
 use Rattle.lk_run.specs.declared.write_waiter.WritePlace.{WritePlace}
 use Rattle.lk_run.specs.declared.write_waiter.WritePlace.TheVariants as place
 use Rattle.lk_run.specs.declared.write_waiter.WriteWaiter.{WriteWaiter}

@@ -8,12 +8,11 @@ use Rattle.lk_domain.specs.Paths.{Any}
 use Rattle.lk_domain.specs.Seats.{calls_of}
 use Rattle.lk_domain.specs.declared.cpu.Cpu.{Cpu}
 use Rattle.lk_domain.specs.declared.domain.Domain.{Domain}
-use Rattle.lk_run.specs.Phases.{Start, CameIn, biased, starting}
+use Rattle.lk_run.specs.Phases.{Start, CameIn, biased, starting, Waiter}
 use Rattle.lk_run.specs.Phases as phase
 use Rattle.lk_run.specs.PolledRead as call
 use Rattle.lk_run.specs.PolledRead.{Alone, Nested}
 use Rattle.lk_run.specs.Resting as queue
-use Rattle.lk_run.specs.Standing.{Waiter}
 use Rattle.lk_run.specs.Turns as turn
 use Rattle.lk_run.specs.Waiters.{Waits}
 use Rattle.lk_run.specs.declared.call.Reader.{Reader}

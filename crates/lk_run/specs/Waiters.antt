@@ -5,8 +5,7 @@ use Rattle.lk_rows.specs.declared.parts.Pc.{Pc}
 use Rattle.lk_domain.specs.Paths.{Any}
 use Rattle.lk_domain.specs.Seats.{IsOf, KeepsRest}
 use Rattle.lk_domain.specs.declared.cpu.Cpu.{Cpu}
-use Rattle.lk_run.specs.Phases.{Start, OwesPoll, HasPolled}
-use Rattle.lk_run.specs.Standing.{Waiter}
+use Rattle.lk_run.specs.Phases.{Start, OwesPoll, HasPolled, Waiter}
 
 -- how the call waits that began so: it was polled after each look after which it stood where it stood
 abbrev pub Waits : Waiter → Pc → Start → Cpu → Option ℕ → Type 0

@@ -7,10 +7,10 @@ use Rattle.lk_rows.specs.declared.parts.Pc.TheVariants.{F1}
 use Rattle.lk_domain.specs.Calls.{slows}
 use Rattle.lk_domain.specs.Paths.{Any}
 use Rattle.lk_domain.specs.Seats.{IsOf, KeepsRest, calls_of}
+use Rattle.lk_domain.specs.Standing.{Outside}
 use Rattle.lk_domain.specs.declared.cpu.Cpu.{Cpu}
-use Rattle.lk_run.specs.Phases.{Start, OwesPoll, HasPolled, Arrives}
+use Rattle.lk_run.specs.Phases.{Start, OwesPoll, HasPolled, Arrives, waiter}
 use Rattle.lk_run.specs.Phases as phase
-use Rattle.lk_run.specs.Standing.{Outside, waiter}
 use Rattle.lk_run.specs.declared.call.Call.{Call}
 
 -- the node is that of the next call of the processor that queues

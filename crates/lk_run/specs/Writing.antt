@@ -8,12 +8,11 @@ use Rattle.lk_rows.specs.declared.setup.Verb.TheVariants.{Write}
 use Rattle.lk_domain.specs.Paths.{Any}
 use Rattle.lk_domain.specs.declared.cpu.Cpu.{Cpu}
 use Rattle.lk_domain.specs.declared.domain.Domain.{Domain}
-use Rattle.lk_run.specs.Phases.{Start, HasPolled, CameIn, starting}
+use Rattle.lk_run.specs.Phases.{Start, HasPolled, CameIn, starting, Waiter}
 use Rattle.lk_run.specs.Phases as phase
 use Rattle.lk_run.specs.PolledWrite as call
 use Rattle.lk_run.specs.Resting as queue
 use Rattle.lk_run.specs.Resting.{row_at, frame_at}
-use Rattle.lk_run.specs.Standing.{Waiter}
 use Rattle.lk_run.specs.Turns as turn
 use Rattle.lk_run.specs.Waiters.{Waits}
 use Rattle.lk_run.specs.declared.call.Writer.{Writer}

@@ -6,6 +6,7 @@ use Rattle.atomic_table.specs.Seated.{TableId}
 use Rattle.lk_names.specs.declared.names.Mode.{Mode}
 use Rattle.lk_names.specs.declared.names.Mode.TheVariants.{Virt, Native, Cna, Pv}
 use Rattle.lk_names.specs.declared.names.Kind.TheVariants.{Spin}
+use Rattle.lk_names.specs.declared.holder.Manner.TheVariants.{Spins}
 use Rattle.lk_word.specs.declared.spin_word.NodeName.{NodeName}
 use Rattle.lk_word.specs.declared.spin_word.Fields.{Fields}
 use Rattle.lk_rows.specs.declared.parts.Frame.{Frame}
@@ -20,10 +21,11 @@ use Rattle.lk_rows.specs.rows.Spin.{is_free, is_unlocked}
 use Rattle.lk_law.specs.Agree.{halts}
 use Rattle.lk_law.specs.Families.{is_slow}
 use Rattle.lk_law.specs.Leads.{Met, Word, Number, Named}
-use Rattle.lk_domain.specs.Calls.{Outlook, Unchanged, Mark, Terms, Running, Calls, lock_name, running, begun, begin, acting, is_on, slows, is_inner, MayBegin, holds_begun}
+use Rattle.lk_law.specs.Sound.{takes_wait}
+use Rattle.lk_domain.specs.Calls.{Outlook, Unchanged, Takes, Mark, Terms, Running, Calls, lock_name, running, begun, begin, acting, is_on, slows, is_inner, MayBegin, holds_begun}
 use Rattle.lk_domain.specs.Keeps.{Slot}
 use Rattle.lk_domain.specs.NodePlays.{Arrives, AtRow, AtPrev, AtEntry, InCall, readied_by}
-use Rattle.lk_domain.specs.Paths.{Any}
+use Rattle.lk_domain.specs.Paths.{Any, still}
 use Rattle.lk_domain.specs.Plans.{locks_of, turns_of, turns_by, kind_at}
 use Rattle.lk_domain.specs.Plays.{went, rowed, made, WentBy, MadeBy, Acts}
 use Rattle.lk_domain.specs.Rows.{arrives_by}
@@ -32,22 +34,14 @@ use Rattle.lk_domain.specs.declared.plan.Plan.{Plan}
 use Rattle.lk_domain.specs.declared.domain.Domain.{Domain}
 use Rattle.lk_domain.specs.declared.view.View.{View}
 use Rattle.lk_pvdomain.specs.PvPlays.{woken}
-use Rattle.lk_pvdomain.specs.PvPaths.{Start, starting, AtOn, HaltedOn, RestsOn, TookOn, EndedOn, Owns, Follows, Spares, Steals, still}
+use Rattle.lk_pvdomain.specs.PvPaths.{Start, starting, AtOn, HaltedOn, RestsOn, TookOn, EndedOn, Owns, Follows, Spares, Steals}
 use Rattle.lk_domain.proofs.Ways as seat
 use Rattle.lk_word.specs.declared.spin_word.Layout.{Layout}
 use Rattle.lk_word.specs.SpinWord.{packed}
 use Rattle.lk_pvdomain.proofs.Fails.{steal_again, steal_failed}
-use Rattle.lk_pvdomain.proofs.ways.Ways.{Goes, Ends, Drops, moved_seat, goes, takes, drops, stands}
-use Rattle.lk_pvdomain.proofs.ways.Leads.{acts, went_on}
+use Rattle.lk_pvdomain.proofs.ways.Ways.{Goes, Ends, moved_seat, moved_still, still_of, stays_at, stood, goes, ends, stands}
+use Rattle.lk_pvdomain.proofs.ways.Leads.{un_off, un_on, acts, went_on}
 use Rattle.lk_pvdomain.proofs.ways.Hands.{plain}
-
-pub un_off : (b : Bool) → not b ≡ false → b ≡ true
-un_off true e = refl
-un_off false e = cc e
-
-pub un_on : (b : Bool) → not b ≡ true → b ≡ false
-un_on false e = refl
-un_on true e = cc e
 
 free_by : (layout : Layout) (n : ℕ) (y : Fields) → n ≡ packed layout y → n ≡ 0 → is_free y ≡ true
 free_by layout n y is h = seat.is_zero layout n y is (eq-eqb n 0 h)
@@ -66,32 +60,34 @@ module _ {d : Domain} {own : NodeName} {ta : TableId} {a : Me Slot View} (r : Re
   mode_is : a.0.who.plan.mode ≡ d.plan.mode
   mode_is = ap (λ (k : Plan). k.mode) r.of.plan
 
-  pub first : AtOn d v l own (starting v l ta ia a) (first_place d.plan.mode v) Any ta ia met
-  first = record {
-    of = moved_seat r.of refl refl;
-    low = low;
-    table_was = refl;
-    id_was = refl;
-    who = refl;
-    holds = ap (λ (xs : List Running). holds_begun v (length xs) l a.0.calls.holds) r.frames;
-    taken = refl;
-    ledger = refl;
-    slots = refl;
-    awake = r.awake;
-    fresh = r.fresh;
-    frame = begun d.plan.mode 0 v l;
-    trail = [];
-    walk = still;
-    frames = ap (λ (xs : List Running). running v (begun d.plan.mode (length xs) v l) [] ∷ xs) r.frames;
-    place = refl;
-    lock = refl;
-    ctx = refl;
-    has = tt;
-  }
+  pub first : takes_wait v ≡ false → AtOn d v l own (starting v l ta ia a) (first_place d.plan.mode v) Any ta ia met
+  first off =
+      record {
+        of = moved_seat r.of refl refl;
+        low = low;
+        plain = off;
+        table_was = refl;
+        id_was = refl;
+        who = refl;
+        holds = ap (λ (xs : List Running). holds_begun v (length xs) l a.0.calls.holds) r.frames;
+        taken = refl;
+        ledger = refl;
+        slots = refl;
+        awake = r.awake;
+        fresh = r.fresh;
+        frame = begun d.plan.mode 0 v l;
+        trail = [];
+        walk = still;
+        frames = ap (λ (xs : List Running). running v (begun d.plan.mode (length xs) v l) [] ∷ xs) r.frames;
+        place = refl;
+        lock = refl;
+        ctx = refl;
+        has = tt;
+      }
 
-  pub first_trail : first.trail ≡ []
+  pub first_trail : (off : takes_wait v ≡ false) → (first off).trail ≡ []
   unfolding first
-  first_trail = refl
+  first_trail off = refl
 
   pub first_step : {b : Me Slot View} (x : Met) → b ≡ (made a.0 v l x, a.1) → b ≡ (went met.0 x, met.1)
   first_step x e = e ∙ ap (λ (k : Calls). (rowed a.0 k x, a.1)) (begins_is a.0.who.plan.mode ∙ ap (λ (m : Mode). begin m a.0.calls v l) mode_is)
@@ -121,8 +117,8 @@ module _ {d : Domain} {own : NodeName} {ta : TableId} {a : Me Slot View} (r : Re
 
 -- where each leads
 module _ {t : Terms} {p : ℕ} {z : Outlook} (f : Frame) where
-  F1_takes : (x : Fields) → f.lock.wait ≡ false → is_free x ≡ true → Ends t p z F1 f (Word x)
-  F1_takes x plain e = record { place = rw e (rw plain refl); grip = rw e refl; own = refl; wakes = refl }
+  F1_takes : (x : Fields) → f.lock.wait ≡ false → is_free x ≡ true → Ends t p z F1 f (Word x) (Takes Spins)
+  F1_takes x plain e = record { place = rw e (rw plain refl); grips = rw e refl; own = refl; wakes = refl }
 
   F1_goes : (x : Fields) → halts t.mode ≡ true → is_free x ≡ false → Goes t p z F1 f (Word x) G1 Any
   F1_goes x h e = by t.mode h
@@ -136,17 +132,17 @@ module _ {t : Terms} {p : ℕ} {z : Outlook} (f : Frame) where
   T1_sees : (x : Fields) → is_free x ≡ true → Goes t p z T1 f (Word x) T2 Any
   T1_sees x e = record { place = rw e refl; grip = rw e refl; lock = rw e refl; wakes = refl; has = tt }
 
-  T1_misses : (x : Fields) → is_free x ≡ false → Drops t p z T1 f (Word x) Unchanged
+  T1_misses : (x : Fields) → is_free x ≡ false → Ends t p z T1 f (Word x) Unchanged
   T1_misses x e = record { place = rw e refl; grips = rw e refl; own = refl; wakes = refl }
 
-  T2_takes : (x : Fields) → f.lock.wait ≡ false → is_free x ≡ true → Ends t p z T2 f (Word x)
-  T2_takes x plain e = record { place = rw e (rw plain refl); grip = rw e refl; own = refl; wakes = refl }
+  T2_takes : (x : Fields) → f.lock.wait ≡ false → is_free x ≡ true → Ends t p z T2 f (Word x) (Takes Spins)
+  T2_takes x plain e = record { place = rw e (rw plain refl); grips = rw e refl; own = refl; wakes = refl }
 
-  T2_misses : (x : Fields) → is_free x ≡ false → Drops t p z T2 f (Word x) Unchanged
+  T2_misses : (x : Fields) → is_free x ≡ false → Ends t p z T2 f (Word x) Unchanged
   T2_misses x e = record { place = rw e refl; grips = rw e refl; own = refl; wakes = refl }
 
-  H2_takes : (x : Fields) → f.lock.wait ≡ false → is_unlocked x.locked ≡ true → Ends t p z H2 f (Word x)
-  H2_takes x plain e = record { place = rw e (rw plain refl); grip = rw e refl; own = refl; wakes = refl }
+  H2_takes : (x : Fields) → f.lock.wait ≡ false → is_unlocked x.locked ≡ true → Ends t p z H2 f (Word x) (Takes Spins)
+  H2_takes x plain e = record { place = rw e (rw plain refl); grips = rw e refl; own = refl; wakes = refl }
 
 module _ {t : Terms} {p : ℕ} {z : Outlook} {own : NodeName} (f : Frame) where
   G1_enters : (n : ℕ) → halts t.mode ≡ true → n ≡ 0 → own.cpu ≡ p → own.index ≡ 0 → Goes t p z G1 f (Number n) H1 (Owns own)
@@ -249,27 +245,7 @@ module _ {d : Domain} {v : Verb} {l : ℕ} {own : NodeName} {s : Start} {ta tb :
   pub readied : {c : Pc} {P : Frame → Type 0} (q : Part) → AtOn d v l own s c P ta ia a → b ≡ (readied_by q a.0, a.1) → AtOn d v l own s c P tb ib b
   readied {c} {P} q w e =
       subst (λ (m : Me Slot View). AtOn d v l own s c P tb ib m) (sym e)
-      (record {
-        of = moved_seat w.of same.0 refl;
-        low = w.low;
-        table_was = same.0 ∙ w.table_was;
-        id_was = same.1 ∙ w.id_was;
-        who = w.who;
-        holds = w.holds;
-        taken = w.taken;
-        ledger = w.ledger;
-        slots = w.slots;
-        awake = w.awake;
-        fresh = w.fresh;
-        frame = w.frame;
-        trail = w.trail;
-        walk = w.walk;
-        frames = w.frames;
-        place = w.place;
-        lock = w.lock;
-        ctx = w.ctx;
-        has = w.has;
-      })
+      (stood (moved_still (still_of w) same refl refl w.awake w.fresh) w.low w.plain w.ledger (stays_at w P w.has refl refl refl))
 
   pub g1_enters : {P : Frame → Type 0} → AtOn d v l own s G1 P ta ia a → b ≡ (went a.0 (Number (slows a.0.calls.frames)), a.1) → AtOn d v l own s H1 (Owns own) tb ib b
   g1_enters w step = goes w same (Number (slows a.0.calls.frames)) step H1 (Owns own)
@@ -280,7 +256,7 @@ module _ {d : Domain} {v : Verb} {l : ℕ} {own : NodeName} {s : Start} {ta tb :
   h1_looks w k = goes w same (Word k.found) k.seat (after_glance (Some own) k.found) (Steals own (is_some k.found.tail)) (H1_looks w.frame k.found w.has)
 
   pub h2_takes : {tailed : Bool} {met : ℕ} → AtOn d v l own s H2 (Steals own tailed) ta ia a → MadeBy v l a met b → met % 256 ≡ 0 → TookOn d v l own s tb ib b
-  h2_takes w k e = takes w same (Word k.found) (went_on w (Word k.found) k.seat)
+  h2_takes w k e = ends w same (Word k.found) (went_on w (Word k.found) k.seat) (Takes Spins)
       (H2_takes w.frame k.found (plain w.frame w.lock) (un_off (is_unlocked k.found.locked) (steal_again _ k.found _ k.word e)))
 
   pub h2_again : {met : ℕ} → AtOn d v l own s H2 (Steals own true) ta ia a → MadeBy v l a met b → met % 256 ≢ 0 → AtOn d v l own s H1 (Owns own) tb ib b
@@ -309,14 +285,14 @@ module _ {d : Domain} {l : ℕ} {own : NodeName} {ta tb : TableId} {ia ib : ℕ}
       → TookOn d Lock l own (starting Lock l ta ia a) tb ib b
   unfolding first
   f1_takes r low k e =
-      takes (first r Lock l ia low) same (Word k.found) (first_step r Lock l ia low (Word k.found) k.seat)
+      ends (first r Lock l ia low refl) same (Word k.found) (first_step r Lock l ia low (Word k.found) k.seat) (Takes Spins)
       (F1_takes (begun d.plan.mode 0 Lock l) k.found refl (free_by _ _ k.found k.word e))
 
   pub f1_goes : {met' : ℕ} (r : RestsOn d own ta a) (low : l < locks_of d.plan) (k : MadeBy Lock l a met' b) → met' ≢ 0
       → AtOn d Lock l own (starting Lock l ta ia a) G1 Any tb ib b
   unfolding first
   f1_goes r low k ne =
-      goes (first r Lock l ia low) same (Word k.found) (first_step r Lock l ia low (Word k.found) k.seat) G1 Any
+      goes (first r Lock l ia low refl) same (Word k.found) (first_step r Lock l ia low (Word k.found) k.seat) G1 Any
       (F1_goes (begun d.plan.mode 0 Lock l) k.found r.of.halting (held_by _ _ k.found k.word ne))
 
 -- the rows of a try
@@ -326,49 +302,29 @@ module _ {d : Domain} {l : ℕ} {own : NodeName} {ta tb : TableId} {ia ib : ℕ}
       → AtOn d Try l own (starting Try l ta ia a) T2 Any tb ib b
   unfolding first
   t1_sees r low k e =
-      goes (first r Try l ia low) same (Word k.found) (first_step r Try l ia low (Word k.found) k.seat) T2 Any
+      goes (first r Try l ia low refl) same (Word k.found) (first_step r Try l ia low (Word k.found) k.seat) T2 Any
       (T1_sees (begun d.plan.mode 0 Try l) k.found (free_by _ _ k.found k.word e))
 
   pub t1_misses : {n : ℕ} (r : RestsOn d own ta a) (low : l < locks_of d.plan) (k : MadeBy Try l a n b) → n ≢ 0
       → EndedOn d Try l own (starting Try l ta ia a) Unchanged tb ib b
   unfolding first
   t1_misses r low k ne =
-      drops (first r Try l ia low) same (Word k.found) (first_step r Try l ia low (Word k.found) k.seat) Unchanged
+      ends (first r Try l ia low refl) same (Word k.found) (first_step r Try l ia low (Word k.found) k.seat) Unchanged
       (T1_misses (begun d.plan.mode 0 Try l) k.found (held_by _ _ k.found k.word ne))
 
   pub t2_takes : {s : Start} {n : ℕ} → AtOn d Try l own s T2 Any ta ia a → (k : MadeBy Try l a n b) → n ≡ 0 → TookOn d Try l own s tb ib b
-  t2_takes w k e = takes w same (Word k.found) (went_on w (Word k.found) k.seat)
+  t2_takes w k e = ends w same (Word k.found) (went_on w (Word k.found) k.seat) (Takes Spins)
       (T2_takes w.frame k.found (plain w.frame w.lock) (free_by _ _ k.found k.word e))
 
   pub t2_misses : {s : Start} {n : ℕ} → AtOn d Try l own s T2 Any ta ia a → (k : MadeBy Try l a n b) → n ≢ 0 → EndedOn d Try l own s Unchanged tb ib b
-  t2_misses w k ne = drops w same (Word k.found) (went_on w (Word k.found) k.seat) Unchanged
+  t2_misses w k ne = ends w same (Word k.found) (went_on w (Word k.found) k.seat) Unchanged
       (T2_misses w.frame k.found (held_by _ _ k.found k.word ne))
 
 -- how a thief goes on
 
 owns : {d : Domain} {v : Verb} {l : ℕ} {own : NodeName} {s : Start} {c : Pc} {tailed : Bool} {ta : TableId} {ia : ℕ} {a : Me Slot View}
     → AtOn d v l own s c (Steals own tailed) ta ia a → AtOn d v l own s c (Owns own) ta ia a
-owns w = record {
-  of = w.of;
-  low = w.low;
-  table_was = w.table_was;
-  id_was = w.id_was;
-  who = w.who;
-  holds = w.holds;
-  taken = w.taken;
-  ledger = w.ledger;
-  slots = w.slots;
-  awake = w.awake;
-  fresh = w.fresh;
-  frame = w.frame;
-  trail = w.trail;
-  walk = w.walk;
-  frames = w.frames;
-  place = w.place;
-  lock = w.lock;
-  ctx = w.ctx;
-  has = w.has.me;
-}
+owns {own} w = stood (still_of w) w.low w.plain w.ledger (stays_at w (Owns own) w.has.me refl refl refl)
 
 glance_steals : (own : NodeName) (x : Fields) → (is_unlocked x.locked && not x.pending) ≡ true → after_glance (Some own) x ≡ H2
 glance_steals own x e = rw e refl

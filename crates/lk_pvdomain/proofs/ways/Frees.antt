@@ -2,14 +2,13 @@
 use Rattle.std.proofs.Common.{inl, inr, ◌≡◌, ◌≢◌, ℕ, ◌<◌, ◌-◌, ◌/◌, ◌%◌, Some, None, Bool, true, false, refl, ap, subst, ◌∙◌, arith, [], ◌∷◌, ◌++◌, List, Option}
 use Rattle.std.proofs.Common.{append-nil, eqb, eq-eqb, sym}
 use Rattle.std.proofs.lemmas.Bool.{cases_Bool}
-use Rattle.std.specs.Prelude.{not, ◌&&◌, if◌then◌else◌}
+use Rattle.std.specs.Prelude.{◌&&◌, if◌then◌else◌}
 use Rattle.atomic_table.specs.Table.{Me}
 use Rattle.atomic_table.specs.Seated.{TableId}
 use Rattle.lk_names.specs.Names.{same_lock}
 use Rattle.lk_names.specs.declared.names.LockName.{LockName}
 use Rattle.lk_names.specs.declared.names.Mode.{Mode}
 use Rattle.lk_names.specs.declared.names.Mode.TheVariants.{Virt, Native, Cna, Pv}
-use Rattle.lk_names.specs.declared.holder.Manner.TheVariants.{Spins}
 use Rattle.lk_word.specs.declared.spin_word.NodeName.{NodeName}
 use Rattle.lk_word.specs.declared.spin_word.Fields.{Fields}
 use Rattle.lk_rows.specs.declared.parts.Frame.{Frame}
@@ -21,7 +20,7 @@ use Rattle.lk_rows.specs.rows.Cna.{is_held}
 use Rattle.lk_law.specs.Agree.{halts}
 use Rattle.lk_law.specs.Leads.{Word, Named, Marked as MarkedMet}
 use Rattle.lk_law.proofs.common.Puts.{if_cases, if-true, if-false}
-use Rattle.lk_domain.specs.Calls.{Outlook, Terms, terms_of, sight_of, Mark, mark, lock_name, Frees, Unchanged, Takes, Hold, holds_in, free_of, moved_to}
+use Rattle.lk_domain.specs.Calls.{Outlook, Terms, terms_of, sight_of, Mark, mark, lock_name, Grip, Frees, Unchanged, Takes, Hold, holds_in, free_of, moved_to}
 use Rattle.lk_domain.specs.Keeps.{AllHome, Slot}
 use Rattle.lk_domain.specs.Ledgers.{Ledger, Look, is_first, closed, opened, turned, listed_look}
 use Rattle.lk_domain.specs.Paths.{Any}
@@ -39,16 +38,9 @@ use Rattle.lk_pvdomain.specs.PvReleases.{found_at, kicked_from, kicked_in}
 use Rattle.lk_pvdomain.specs.PvRows.{tries_release}
 use Rattle.lk_domain.proofs.Freed.{released}
 use Rattle.lk_pvdomain.proofs.Fails.{release_again, release_failed}
-use Rattle.lk_pvdomain.proofs.ways.Ways.{Goes, Drops, goes, goes_trail, ends, drops, last_is, yields, yields_trail, stands}
+use Rattle.lk_pvdomain.proofs.ways.Ways.{Goes, Ends, goes, goes_trail, ends, last_is, yields, yields_trail, stands}
+use Rattle.lk_pvdomain.proofs.ways.Leads.{un_off, un_on}
 use Rattle.lk_pvdomain.proofs.ways.Arrives.{met, first, first_step, first_trail}
-
-held_off : (b : Bool) → not b ≡ false → b ≡ true
-held_off true e = refl
-held_off false e = cc e
-
-held_on : (b : Bool) → not b ≡ true → b ≡ false
-held_on false e = refl
-held_on true e = cc e
 
 pub first_is : (m : Mode) → halts m ≡ true → first_place m Unlock ≡ U2
 first_is Pv h = refl
@@ -60,7 +52,7 @@ pub first_tries : (m : Mode) → halts m ≡ true → tries_release (first_place
 first_tries m h = ap tries_release (first_is m h)
 
 module _ {t : Terms} {p : ℕ} {z : Outlook} (f : Frame) where
-  U2_frees : (x : Fields) → is_held x.locked ≡ true → Drops t p z U2 f (Word x) Frees
+  U2_frees : (x : Fields) → is_held x.locked ≡ true → Ends t p z U2 f (Word x) Frees
   U2_frees x e = record { place = rw e refl; grips = rw e refl; own = refl; wakes = refl }
 
   U2_seeks : (x : Fields) → is_held x.locked ≡ false → Goes t p z U2 f (Word x) U3 Any
@@ -77,35 +69,35 @@ kicked_more o (x ∷ ks) k = kicked_more (found_at x.row x.met o) ks k
 module _ {d : Domain} {l : ℕ} {own : NodeName} {ta : TableId} {a : Me Slot View} (r : RestsOn d own ta a) (ia : ℕ) (low : l < locks_of d.plan) where
   begun_at : AtOn d Unlock l own (starting Unlock l ta ia a) U2 Any ta ia (met r Unlock l ia low)
   begun_at = subst (λ c. AtOn d Unlock l own (starting Unlock l ta ia a) c Any ta ia (met r Unlock l ia low)) (first_is d.plan.mode r.of.halting)
-      (first r Unlock l ia low)
+      (first r Unlock l ia low refl)
 
   -- where it has no row yet
   begun_trail : begun_at.trail ≡ []
   unfolding begun_at
   begun_trail =
       sym (λ j. (coe 0 j (i. AtOn d Unlock l own (starting Unlock l ta ia a) (first_is d.plan.mode r.of.halting i) Any ta ia (met r Unlock l ia low))
-      (first r Unlock l ia low)).trail) ∙ first_trail r Unlock l ia low
+      (first r Unlock l ia low refl)).trail) ∙ first_trail r Unlock l ia low refl
 
 module _ {d : Domain} {l : ℕ} {own : NodeName} {ta tb : TableId} {ia ib : ℕ} {a b : Me Slot View} (same : (tb ≡ ta) × (ib ≡ ia))
     (r : RestsOn d own ta a) (low : l < locks_of d.plan) where
   pub u2_frees : {n : ℕ} (k : MadeBy Unlock l a n b) → n % 256 ≡ 1 → EndedOn d Unlock l own (starting Unlock l ta ia a) Frees tb ib b
   u2_frees k e =
-      drops (begun_at r ia low) same (Word k.found) (first_step r Unlock l ia low (Word k.found) k.seat) Frees
-      (U2_frees (begun_at r ia low).frame k.found (held_off (is_held k.found.locked) (release_again _ k.found _ k.word e)))
+      ends (begun_at r ia low) same (Word k.found) (first_step r Unlock l ia low (Word k.found) k.seat) Frees
+      (U2_frees (begun_at r ia low).frame k.found (un_off (is_held k.found.locked) (release_again _ k.found _ k.word e)))
 
   -- it kicks nobody
   pub u2_kicks : {n : ℕ} (k : MadeBy Unlock l a n b) → n % 256 ≡ 1 → kicked_in b.0.calls.last ≡ None
   u2_kicks k e =
       let w = begun_at r ia low in
       let z : Outlook = sight_of (terms_of d.plan) own.cpu (met r Unlock l ia low).0.calls.runs in
-      let frees : Drops (terms_of d.plan) own.cpu z U2 w.frame (Word k.found) Frees = U2_frees w.frame k.found (held_off (is_held k.found.locked) (release_again _ k.found _ k.word e)) in
+      let frees : Ends (terms_of d.plan) own.cpu z U2 w.frame (Word k.found) Frees = U2_frees w.frame k.found (un_off (is_held k.found.locked) (release_again _ k.found _ k.word e)) in
       ap kicked_in (last_is w same (Word k.found) (first_step r Unlock l ia low (Word k.found) k.seat) frees.place)
       ∙ (kicked_more None w.trail _ ∙ ap kicked_in (begun_trail r ia low))
 
   pub u2_seeks : {n : ℕ} (k : MadeBy Unlock l a n b) → n % 256 ≢ 1 → AtOn d Unlock l own (starting Unlock l ta ia a) U3 Any tb ib b
   u2_seeks k ne =
       goes (begun_at r ia low) same (Word k.found) (first_step r Unlock l ia low (Word k.found) k.seat) U3 Any
-      (U2_seeks (begun_at r ia low).frame k.found (held_on (is_held k.found.locked) (release_failed _ k.found _ k.word ne)))
+      (U2_seeks (begun_at r ia low).frame k.found (un_on (is_held k.found.locked) (release_failed _ k.found _ k.word ne)))
 
 module _ {d : Domain} {l : ℕ} {own : NodeName} {s : Start} {ta tb : TableId} {ia ib : ℕ} {a b : Me Slot View}
     (same : (tb ≡ ta) × (ib ≡ ia)) where
@@ -118,7 +110,7 @@ module _ {d : Domain} {l : ℕ} {own : NodeName} {s : Start} {ta tb : TableId} {
 
   pub u5_kicks : {node : NodeName} (found : Bool) → AtOn d Unlock l own s U5 (Kicks node) ta ia a → b ≡ (went a.0 (MarkedMet found), a.1)
       → EndedOn d Unlock l own s Frees tb ib b
-  u5_kicks found w step = ends w same (MarkedMet found) step Frees refl refl refl refl
+  u5_kicks found w step = ends w same (MarkedMet found) step Frees (record { place = refl; grips = refl; own = refl; wakes = refl })
 
 -- the processor that is kicked by the rows U3 to U5
 module _ {d : Domain} {l : ℕ} {own : NodeName} {s : Start} {t0 t1 t2 t3 : TableId} {i0 i1 i2 i3 : ℕ} {m0 m1 m2 m3 : Me Slot View}
@@ -144,9 +136,15 @@ module _ {d : Domain} {l : ℕ} {own node : NodeName} {s : Start} {ta : TableId}
   kick_asks cpu e home =
       record { verb = Unlock; lock = lock_name l; stands = stands w; home = home; target = ap (λ o. (node_of o).cpu) w.has ∙ e }
 
--- a release leaves the journal where it is
-pub out_freed : (g : Ledger) (l : ℕ) (t : List Mark) → (turned g (lock_name l) Frees t).out ≡ g.out
-out_freed g l t = by (is_first (lock_name l))
+-- a row that takes or frees a lock leaves the journal where it is
+pub out_kept : (grip : Grip) (g : Ledger) (l : ℕ) (t : List Mark) → (turned g (lock_name l) grip t).out ≡ g.out
+out_kept Unchanged g l t = refl
+out_kept (Takes m) g l t = by (is_first (lock_name l))
+  where
+    by : (b : Bool) → (if b then opened g m t else g).out ≡ g.out
+    by true = refl
+    by false = refl
+out_kept Frees g l t = by (is_first (lock_name l))
   where
     by : (b : Bool) → (if b then closed g else g).out ≡ g.out
     by true = refl
@@ -180,16 +178,16 @@ pub freed_once : {d : Domain} {l : ℕ} {own : NodeName} {s : Start} {tb : Table
     → EndedOn d Unlock l own (freed s l t) Frees tb ib b → EndedOn d Unlock l own s Frees tb ib b
 freed_once {l} {s} {b} t e =
     record {
-      over = record {
-        of = e.over.of;
-        table_was = e.over.table_was;
-        id_was = e.over.id_was;
-        who = e.over.who;
-        slots = e.over.slots;
-        frames = e.over.frames;
-        awake = e.over.awake;
-        fresh = e.over.fresh;
+      still = record {
+        of = e.still.of;
+        table_was = e.still.table_was;
+        id_was = e.still.id_was;
+        who = e.still.who;
+        slots = e.still.slots;
+        awake = e.still.awake;
+        fresh = e.still.fresh;
       };
+      frames = e.frames;
       path = e.path;
       holds = e.holds ∙ free_twice 0 (lock_name l) s.holds;
       taken = e.taken;
@@ -216,7 +214,7 @@ let_go c l (h ∷ hs) = elim (cases_Bool (same_lock h.lock l)) [
     no true = refl
     no false = refl
 
--- what a release leaves as it was
+-- what a call that is over leaves as it was
 pub record IsLet (old new : Seat Slot View) : Type 0 where
   pub table_was : new.table_id ≡ old.table_id
   pub id_was : new.id ≡ old.id
@@ -227,57 +225,26 @@ pub record IsLet (old new : Seat Slot View) : Type 0 where
   pub awake : new.me.0.calls.halted ≡ false
   pub fresh : new.me.0.calls.looked ≡ 0
 
-pub is_let : (d : Domain) (l : ℕ) (own : NodeName) (old new : Seat Slot View)
-    → Ended d Unlock l own (first_of Unlock l old) Frees new → IsLet old new
-is_let d l own old new e =
+pub is_let : {d : Domain} {v : Verb} {l : ℕ} {own : NodeName} {grip : Grip} (old new : Seat Slot View)
+    → Ended d v l own (first_of v l old) grip new → IsLet old new
+is_let {l} {grip} old new e =
     record {
-      table_was = e.over.table_was;
-      id_was = e.over.id_was;
-      who = e.over.who;
-      slots = e.over.slots;
-      out = ap (λ (y : Ledger). y.out) e.ledger ∙ out_freed old.me.0.ledger l new.me.0.calls.last;
-      frames = e.over.frames;
-      awake = e.over.awake;
-      fresh = e.over.fresh;
+      table_was = e.still.table_was;
+      id_was = e.still.id_was;
+      who = e.still.who;
+      slots = e.still.slots;
+      out = ap (λ (y : Ledger). y.out) e.ledger ∙ out_kept grip old.me.0.ledger l new.me.0.calls.last;
+      frames = e.frames;
+      awake = e.still.awake;
+      fresh = e.still.fresh;
     }
 
--- so does one that takes the lock, and one that misses it
-pub out_taken : (g : Ledger) (l : ℕ) (t : List Mark) → (turned g (lock_name l) (Takes Spins) t).out ≡ g.out
-out_taken g l t = by (is_first (lock_name l))
-  where
-    by : (b : Bool) → (if b then opened g Spins t else g).out ≡ g.out
-    by true = refl
-    by false = refl
-
-pub is_taken : (d : Domain) (v : Verb) (l : ℕ) (own : NodeName) (old new : Seat Slot View) → Took d v l own (first_of v l old) new → IsLet old new
-is_taken d v l own old new e =
-    record {
-      table_was = e.over.table_was;
-      id_was = e.over.id_was;
-      who = e.over.who;
-      slots = e.over.slots;
-      out = ap (λ (y : Ledger). y.out) e.ledger ∙ out_taken old.me.0.ledger l new.me.0.calls.last;
-      frames = e.over.frames;
-      awake = e.over.awake;
-      fresh = e.over.fresh;
-    }
-
-pub is_tried : (d : Domain) (l : ℕ) (own : NodeName) (old new : Seat Slot View) (b : Bool)
+-- and one that has taken the lock, or missed it
+pub is_tried : {d : Domain} {l : ℕ} {own : NodeName} (old new : Seat Slot View) (b : Bool)
     → (b ≡ true → Took d Try l own (first_of Try l old) new) → (b ≡ false → Ended d Try l own (first_of Try l old) Unchanged new)
     → IsLet old new
-is_tried d l own old new true took missed = is_taken d Try l own old new (took refl)
-is_tried d l own old new false took missed =
-    let e = missed refl in
-    record {
-      table_was = e.over.table_was;
-      id_was = e.over.id_was;
-      who = e.over.who;
-      slots = e.over.slots;
-      out = ap (λ (y : Ledger). y.out) e.ledger;
-      frames = e.over.frames;
-      awake = e.over.awake;
-      fresh = e.over.fresh;
-    }
+is_tried old new true took missed = is_let old new (took refl)
+is_tried old new false took missed = is_let old new (missed refl)
 
 -- nothing of the lock is held then, and all other holds stand
 module _ (d : Domain) (l : ℕ) (own : NodeName) (old new : Seat Slot View)

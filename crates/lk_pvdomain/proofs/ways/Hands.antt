@@ -3,6 +3,7 @@ use Rattle.std.proofs.Common.{inr, ◌≡◌, ◌≢◌, ℕ, Option, Some, None
 use Rattle.atomic_table.specs.Table.{Me}
 use Rattle.atomic_table.specs.Seated.{TableId}
 use Rattle.std.specs.Prelude.{◌&&◌, not}
+use Rattle.lk_names.specs.declared.holder.Manner.TheVariants.{Spins}
 use Rattle.lk_names.specs.declared.names.LockName.{LockName}
 use Rattle.lk_word.specs.declared.spin_word.NodeName.{NodeName}
 use Rattle.lk_word.specs.declared.spin_word.Fields.{Fields}
@@ -16,7 +17,7 @@ use Rattle.lk_rows.specs.declared.setup.Verb.{Verb}
 use Rattle.lk_rows.specs.Moves.{is_node, node_of}
 use Rattle.lk_rows.specs.rows.Cna.{is_held, is_last}
 use Rattle.lk_law.specs.Leads.{Word, Stated, Flagged, Named, Linked}
-use Rattle.lk_domain.specs.Calls.{Outlook, Terms, lock_name}
+use Rattle.lk_domain.specs.Calls.{Outlook, Terms, Takes, lock_name}
 use Rattle.lk_domain.specs.Keeps.{Slot}
 use Rattle.lk_domain.specs.NodePlays.{InCall, SeesLink}
 use Rattle.lk_domain.specs.NodeUses.{HandsTo, LooksBehind}
@@ -26,20 +27,20 @@ use Rattle.lk_domain.specs.declared.domain.Domain.{Domain}
 use Rattle.lk_domain.specs.declared.view.View.{View}
 use Rattle.lk_pvdomain.specs.PvPaths.{Start, AtOn, TookOn, Owns, Precedes}
 use Rattle.lk_pvdomain.specs.PvPlays.{AtLast, SeesState}
-use Rattle.lk_pvdomain.proofs.ways.Ways.{Goes, Ends, goes, takes, stands}
+use Rattle.lk_pvdomain.proofs.ways.Ways.{Goes, Ends, goes, ends, stands}
 
 -- where each leads
 module _ {t : Terms} {p : ℕ} {z : Outlook} (f : Frame) where
-  E13_leaves : (x : Fields) → f.lock.wait ≡ false → is_last f x ≡ true → Ends t p z E13 f (Word x)
-  E13_leaves x plain e = record { place = rw e (rw plain refl); grip = rw e refl; own = refl; wakes = refl }
+  E13_leaves : (x : Fields) → f.lock.wait ≡ false → is_last f x ≡ true → Ends t p z E13 f (Word x) (Takes Spins)
+  E13_leaves x plain e = record { place = rw e (rw plain refl); grips = rw e refl; own = refl; wakes = refl }
 
-  K1_leaves : (x : State) → f.lock.wait ≡ false → state_number x ≢ 1 → Ends t p z K1 f (Stated x)
-  K1_leaves state.Running plain ne = record { place = rw plain refl; grip = refl; own = refl; wakes = refl }
+  K1_leaves : (x : State) → f.lock.wait ≡ false → state_number x ≢ 1 → Ends t p z K1 f (Stated x) (Takes Spins)
+  K1_leaves state.Running plain ne = record { place = rw plain refl; grips = refl; own = refl; wakes = refl }
   K1_leaves state.Halted plain ne = absurd (ne refl)
-  K1_leaves state.Hashed plain ne = record { place = rw plain refl; grip = refl; own = refl; wakes = refl }
+  K1_leaves state.Hashed plain ne = record { place = rw plain refl; grips = refl; own = refl; wakes = refl }
 
-  K3_leaves : (x : Option NodeName) → f.lock.wait ≡ false → Ends t p z K3 f (Named x)
-  K3_leaves x plain = record { place = rw plain refl; grip = refl; own = refl; wakes = refl }
+  K3_leaves : (x : Option NodeName) → f.lock.wait ≡ false → Ends t p z K3 f (Named x) (Takes Spins)
+  K3_leaves x plain = record { place = rw plain refl; grips = refl; own = refl; wakes = refl }
 
 module _ {t : Terms} {p : ℕ} {z : Outlook} {own : NodeName} (f : Frame) where
   E13_stays : (x : Fields) → is_last f x ≡ false → f.me ≡ Some own → Goes t p z E13 f (Word x) E14 (Owns own)
@@ -85,7 +86,7 @@ module _ {d : Domain} {v : Verb} {l : ℕ} {own : NodeName} {s : Start} {ta tb :
     (same : (tb ≡ ta) × (ib ≡ ia)) where
   pub e13_leaves : {met : ℕ} → AtOn d v l own s E13 (Owns own) ta ia a → (k : WentBy a met b)
       → (is_held k.found.locked && not k.found.pending && is_node k.found.tail own) ≡ true → TookOn d v l own s tb ib b
-  e13_leaves w k e = takes w same (Word k.found) k.seat
+  e13_leaves w k e = ends w same (Word k.found) k.seat (Takes Spins)
       (E13_leaves w.frame k.found (plain w.frame w.lock) ((λ i. is_held k.found.locked && not k.found.pending && is_node k.found.tail (node_of (w.has i))) ∙ e))
 
   pub e13_stays : {met : ℕ} → AtOn d v l own s E13 (Owns own) ta ia a → (k : WentBy a met b)
@@ -105,7 +106,7 @@ module _ {d : Domain} {v : Verb} {l : ℕ} {own : NodeName} {s : Start} {ta tb :
   e15_hands {to} w step = goes w same (Flagged Unset) step K1 (Precedes own to) (E15_hands w.frame Unset w.has)
 
   pub k1_leaves : {to : NodeName} {met : ℕ} → AtOn d v l own s K1 (Precedes own to) ta ia a → SeesState a met b → met ≢ 1 → TookOn d v l own s tb ib b
-  k1_leaves w k ne = takes w same (Stated k.found) k.seat (K1_leaves w.frame k.found (plain w.frame w.lock) (λ e. ne (k.word ∙ e)))
+  k1_leaves w k ne = ends w same (Stated k.found) k.seat (Takes Spins) (K1_leaves w.frame k.found (plain w.frame w.lock) (λ e. ne (k.word ∙ e)))
 
   pub k1_signs : {to : NodeName} {met : ℕ} → AtOn d v l own s K1 (Precedes own to) ta ia a → SeesState a met b → met ≡ 1
       → AtOn d v l own s K2 (Precedes own to) tb ib b
@@ -115,4 +116,4 @@ module _ {d : Domain} {v : Verb} {l : ℕ} {own : NodeName} {s : Start} {ta tb :
   k2_signs {to} w k = goes w same (Word k.found) k.seat K3 (Precedes own to) (K2_signs w.frame k.found w.has)
 
   pub k3_leaves : {to : NodeName} → AtOn d v l own s K3 (Precedes own to) ta ia a → b ≡ (went a.0 (Named None), a.1) → TookOn d v l own s tb ib b
-  k3_leaves w step = takes w same (Named None) step (K3_leaves w.frame None (plain w.frame w.lock))
+  k3_leaves w step = ends w same (Named None) step (Takes Spins) (K3_leaves w.frame None (plain w.frame w.lock))

@@ -36,13 +36,13 @@ use Rattle.lk_pvdomain.specs.PvRows.{fills, filled_with, erases}
 use Rattle.lk_pvdomain.proofs.Fails.{low_byte, head_again, head_failed, steal_again, steal_failed}
 use Rattle.lk_pvdomain.proofs.ways.Ways.{Goes, goes, stands, rests}
 
-not_off : (b : Bool) → not b ≡ false → b ≡ true
-not_off true e = refl
-not_off false e = cc e
+pub un_off : (b : Bool) → not b ≡ false → b ≡ true
+un_off true e = refl
+un_off false e = cc e
 
-not_on : (b : Bool) → not b ≡ true → b ≡ false
-not_on false e = refl
-not_on true e = cc e
+pub un_on : (b : Bool) → not b ≡ true → b ≡ false
+un_on false e = refl
+un_on true e = cc e
 
 slow_on : (a : Locked) → locked_number a ≡ 3 → is_slow_byte a ≡ true
 slow_on Free e = absurd (omega (arith, e))
@@ -184,17 +184,17 @@ module _ {d : Domain} {v : Verb} {l : ℕ} {own : NodeName} {s : Start} {ta tb :
   pub e4_takes : {h : Bool} {n met : ℕ} → AtOn d v l own s E4 (Tries own h n) ta ia a → MadeBy v l a met b → met % 512 ≡ 256
       → AtOn d v l own s E13 (Owns own) tb ib b
   e4_takes w k e = goes w same (Word k.found) (went_on w (Word k.found) k.seat) E13 (Owns own)
-      (E4_takes w.frame k.found (not_off (is_unlocked k.found.locked && k.found.pending) (head_again _ k.found _ k.word e)) w.has)
+      (E4_takes w.frame k.found (un_off (is_unlocked k.found.locked && k.found.pending) (head_again _ k.found _ k.word e)) w.has)
 
   pub e4_last : {h : Bool} {n met : ℕ} → AtOn d v l own s E4 (Tries own h n) ta ia a → MadeBy v l a met b → met % 512 ≢ 256 → n ≤ 1
       → AtOn d v l own s E5 (Leads own h) tb ib b
   e4_last {h} w k ne low = goes w same (Word k.found) (went_on w (Word k.found) k.seat) E5 (Leads own h)
-      (E4_last w.frame k.found (not_on (is_unlocked k.found.locked && k.found.pending) (head_failed _ k.found _ k.word ne)) low w.has)
+      (E4_last w.frame k.found (un_on (is_unlocked k.found.locked && k.found.pending) (head_failed _ k.found _ k.word ne)) low w.has)
 
   pub e4_again : {h : Bool} {n met : ℕ} → AtOn d v l own s E4 (Tries own h n) ta ia a → MadeBy v l a met b → met % 512 ≢ 256 → (n - 1) ≢ 0
       → AtOn d v l own s E4 (Tries own h (n - 1)) tb ib b
   e4_again {h} {n} w k ne more = goes w same (Word k.found) (went_on w (Word k.found) k.seat) E4 (Tries own h (n - 1))
-      (E4_again w.frame k.found (not_on (is_unlocked k.found.locked && k.found.pending) (head_failed _ k.found _ k.word ne)) more w.has)
+      (E4_again w.frame k.found (un_on (is_unlocked k.found.locked && k.found.pending) (head_failed _ k.found _ k.word ne)) more w.has)
 
   pub e5_hashed : {met : ℕ} → AtOn d v l own s E5 (Leads own true) ta ia a → WentBy a met b → AtOn d v l own s E10 (Leads own true) tb ib b
   e5_hashed w k = goes w same (Word k.found) k.seat E10 (Leads own true) (E5_hashed w.frame k.found w.has)
@@ -207,11 +207,11 @@ module _ {d : Domain} {v : Verb} {l : ℕ} {own : NodeName} {s : Start} {ta tb :
 
   pub e7_takes : {met : ℕ} → AtOn d v l own s E7 (Owns own) ta ia a → WentBy a met b → met % 256 ≡ 0 → AtOn d v l own s E8 (Owns own) tb ib b
   e7_takes w k e = goes w same (Word k.found) k.seat E8 (Owns own)
-      (E7_takes w.frame k.found (not_off (is_unlocked k.found.locked) (steal_again _ k.found _ k.word e)) w.has)
+      (E7_takes w.frame k.found (un_off (is_unlocked k.found.locked) (steal_again _ k.found _ k.word e)) w.has)
 
   pub e7_else : {met : ℕ} → AtOn d v l own s E7 (Owns own) ta ia a → WentBy a met b → met % 256 ≢ 0 → AtOn d v l own s E10 (Leads own true) tb ib b
   e7_else w k ne = goes w same (Word k.found) k.seat E10 (Leads own true)
-      (E7_else w.frame k.found (not_on (is_unlocked k.found.locked) (steal_failed _ k.found _ k.word ne)) w.has)
+      (E7_else w.frame k.found (un_on (is_unlocked k.found.locked) (steal_failed _ k.found _ k.word ne)) w.has)
 
   pub e8_wins : {met : ℕ} → AtOn d v l own s E8 (Owns own) ta ia a → WentBy a met b → AtOn d v l own s E9 (Owns own) tb ib b
   e8_wins w k = goes w same (Word k.found) k.seat E9 (Owns own) (E8_wins w.frame k.found w.has)

@@ -1,11 +1,13 @@
 -- What a turn leaves as it was, and what is known where it leads.
 use Rattle.std.proofs.Common.{◌≡◌, ◌<◌, ℕ, Bool, true, false, Option, Some, None, refl, sym, ap, subst, ◌∙◌}
 use Rattle.atomic_table.specs.declared.shared.Seat.{Seat}
+use Rattle.lk_names.specs.declared.holder.Manner.TheVariants.{Spins}
 use Rattle.lk_word.specs.declared.spin_word.NodeName.{NodeName}
 use Rattle.lk_rows.specs.declared.parts.Frame.{Frame}
 use Rattle.lk_rows.specs.declared.parts.Pc.{Pc}
 use Rattle.lk_rows.specs.declared.parts.Pc.TheVariants.{G1}
 use Rattle.lk_rows.specs.declared.setup.Verb.TheVariants.{Lock}
+use Rattle.lk_domain.specs.Calls.{Takes}
 use Rattle.lk_domain.specs.Keeps.{Slot}
 use Rattle.lk_domain.specs.Ledgers.{Ledger}
 use Rattle.lk_domain.specs.Paths.{Any}
@@ -23,7 +25,7 @@ use Rattle.lk_pvdomain.specs.PvPaths.{Start, At, AtOn, HaltedOn, Took, first_of}
 use Rattle.lk_pvdomain.specs.PvRests.{Rests, Comes, is_asleep, is_asleep_at}
 use Rattle.lk_domain.specs.Seats.{IsSame}
 use Rattle.lk_pvdomain.specs.PvTurns.{Waits, waiter_at}
-use Rattle.lk_pvdomain.proofs.ways.Frees.{out_taken}
+use Rattle.lk_pvdomain.proofs.ways.Frees.{out_kept}
 use Rattle.lk_pvdomain.proofs.ways.Kept.{IsKept}
 
 -- since a call began so: it is the same seat of the same processor, with the same slots, and the journal
@@ -61,11 +63,11 @@ module _ (d : Domain) (l : ℕ) (own : NodeName) (s : Start) (a : Seat Slot View
   pub since_comes : (o : Option PvRest) → Comes d l own o s a → IsSince s a
   since_comes None t =
       record {
-        table = t.over.table_was;
-        id = t.over.id_was;
-        who = t.over.who;
-        slots = t.over.slots;
-        out = ap (λ (g : Ledger). g.out) t.ledger ∙ out_taken s.ledger l a.me.0.calls.last;
+        table = t.still.table_was;
+        id = t.still.id_was;
+        who = t.still.who;
+        slots = t.still.slots;
+        out = ap (λ (g : Ledger). g.out) t.ledger ∙ out_kept (Takes Spins) s.ledger l a.me.0.calls.last;
       }
   since_comes (Some r) w = since_rests r w
 
@@ -89,7 +91,7 @@ module _ (d : Domain) (l : ℕ) (own : NodeName) (s : Start) (a : Seat Slot View
   asleep_rests (rest.EnlistsNext to) w = w.1.awake
 
   pub asleep_comes : (o : Option PvRest) → Comes d l own o s a → a.me.0.calls.halted ≡ is_asleep_at o
-  asleep_comes None t = t.over.awake
+  asleep_comes None t = t.still.awake
   asleep_comes (Some r) w = asleep_rests r w
 
 -- it began with this seat

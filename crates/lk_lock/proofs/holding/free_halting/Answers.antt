@@ -37,7 +37,7 @@ invariant_of-cpu g c =
     let on = c.requires.on in
     let own = first_node old.number in
     let seat = c.release.new.seat in
-    let let_it = is_let d c.args.id.index own old.seat seat
+    let let_it = is_let old.seat seat
     (c.release.ensures.freed own (first_of Unlock c.args.id.index old.seat) (c.free-met.ensures.tried own (rests d old was on))) in
     record {
       numbered = numbered d old was on seat let_it;
@@ -62,7 +62,7 @@ invariant_of-cpu-else-met-ne-HELD g c =
     let on = c.requires.on in
     let own = first_node old.number in
     let seat = c.free-met.new.seat in
-    let let_it = is_let d c.args.id.index own old.seat seat (c.free-met.ensures.freed c.if-met-ne-HELD.false own (rests d old was on)) in
+    let let_it = is_let old.seat seat (c.free-met.ensures.freed c.if-met-ne-HELD.false own (rests d old was on)) in
     record {
       numbered = numbered d old was on seat let_it;
       noted = λ off. absurd (unnoted d old was on seat let_it off);

@@ -1,7 +1,7 @@
 use Rattle.std.proofs.Common.{ℕ, refl, subst}
 use Rattle.lk_rows.specs.declared.setup.Verb.TheVariants.{Lock}
 use Rattle.lk_pvdomain.specs.PvPaths.{Took, first_node, first_of}
-use Rattle.lk_pvdomain.proofs.ways.Frees.{is_taken}
+use Rattle.lk_pvdomain.proofs.ways.Frees.{is_let}
 use Rattle.lk_lock.proofs.HaltingSteps.{carried, named, numbered, pv_takes, rests, unnoted}
 use Rattle.lk_lock.proofs.holding.take_halting.Goals as goal
 
@@ -32,7 +32,7 @@ invariant_of-cpu g c =
     let l = c.args.id.index in
     let n = c.number-number.result in
     let seat = c.contend.new.seat in
-    let let_it = is_taken d Lock l (first_node n) old.seat seat
+    let let_it = is_let old.seat seat
     (c.contend.ensures.took (first_of Lock l old.seat)
     (c.take.ensures.goes c.if-not-take.true (first_node n) (named d old c.requires.ready c.requires.on n c.number-number.ensures))) in
     record {
@@ -61,7 +61,7 @@ invariant_of-cpu-else-not-take g c =
     let l = c.args.id.index in
     let own = first_node old.number in
     let seat = c.take.new.seat in
-    let let_it = is_taken d Lock l own old.seat seat (c.take.ensures.took c.if-not-take.false own (rests d old c.requires.ready c.requires.on)) in
+    let let_it = is_let old.seat seat (c.take.ensures.took c.if-not-take.false own (rests d old c.requires.ready c.requires.on)) in
     record {
       numbered = numbered d old c.requires.ready c.requires.on seat let_it;
       noted = λ off. absurd (unnoted d old c.requires.ready c.requires.on seat let_it off);

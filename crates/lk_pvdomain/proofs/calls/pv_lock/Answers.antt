@@ -2,7 +2,7 @@ use Rattle.std.proofs.Common.{ℕ, refl, subst}
 use Rattle.lk_rows.specs.declared.setup.Verb.TheVariants.{Lock}
 use Rattle.lk_pvdomain.specs.PvCalls.{own_node}
 use Rattle.lk_pvdomain.specs.PvPaths.{Took, first_node, first_of}
-use Rattle.lk_pvdomain.proofs.ways.Frees.{is_taken}
+use Rattle.lk_pvdomain.proofs.ways.Frees.{is_let}
 use Rattle.lk_pvdomain.proofs.ways.Kept.{rests_of, rests_as, kept_cpu, let_cpu, let_same, let_rests}
 use Rattle.lk_pvdomain.proofs.ways.Rested.{since_first, since_take, kept_since}
 use Rattle.lk_pvdomain.proofs.calls.pv_lock.Goals as goal
@@ -51,7 +51,7 @@ invariant_of-cpu-then-not-take g c =
     let took = c.contend.ensures.took (first_of Lock c.args.lock.index cpu.seat)
     (c.take.ensures.goes c.if-not-take.true own
     (rests_as d cpu c.requires.domain c.requires.rests c.number-number.result c.number-number.ensures)) in
-    let k = let_cpu d cpu c.requires.domain _ (is_taken d.domain Lock c.args.lock.index own cpu.seat _ took) in
+    let k = let_cpu d cpu c.requires.domain _ (is_let cpu.seat _ took) in
     record {
       numbered = k.numbered;
       noted = λ e. absurd (k.awake e);
@@ -71,12 +71,12 @@ returns-then-not-take g c =
     subst (λ (n : ℕ). Took d.domain Lock l (first_node n) s new) c.number-number.ensures
     (c.contend.ensures.took s
     (c.take.ensures.goes c.if-not-take.true (first_node n) (rests_as d cpu c.requires.domain c.requires.rests n c.number-number.ensures))) in
-    let t = is_taken d.domain Lock l (own_node cpu) cpu.seat new took in
+    let t = is_let cpu.seat new took in
     record { same = let_same cpu _ t refl; taken = record { took = took; rests = let_rests t } }
 
 pub returns-else-not-take : goal.returns-else-not-take
 returns-else-not-take g c =
     let cpu = c.args.cpu.now in
     let took = c.take.ensures.took c.if-not-take.false (own_node cpu) (rests_of c.args.domain.now cpu c.requires.domain c.requires.rests) in
-    let t = is_taken c.args.domain.now.domain Lock c.args.lock.index (own_node cpu) cpu.seat _ took in
+    let t = is_let cpu.seat _ took in
     record { same = let_same cpu _ t refl; taken = record { took = took; rests = let_rests t } }

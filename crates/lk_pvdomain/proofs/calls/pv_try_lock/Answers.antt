@@ -18,7 +18,7 @@ pub invariant_of-cpu : goal.invariant_of-cpu
 invariant_of-cpu c =
     let d = c.args.domain.now in
     let cpu = c.args.cpu.now in
-    let k = let_cpu d cpu c.requires.domain _ (is_tried d.domain c.args.lock.index (first_node c.number-number.result) cpu.seat _ c.try_lock.result c.try_lock.ensures.took c.try_lock.ensures.missed) in
+    let k = let_cpu d cpu c.requires.domain _ (is_tried cpu.seat _ c.try_lock.result c.try_lock.ensures.took c.try_lock.ensures.missed) in
     record {
       numbered = k.numbered;
       noted = λ e. absurd (k.awake e);
@@ -33,7 +33,7 @@ returns c =
     let cpu = c.args.cpu.now in
     let new = c.try_lock.new.seat in
     let s = first_of Try l cpu.seat in
-    let t = is_tried d l (first_node c.number-number.result) cpu.seat new c.try_lock.result c.try_lock.ensures.took c.try_lock.ensures.missed in
+    let t = is_tried cpu.seat new c.try_lock.result c.try_lock.ensures.took c.try_lock.ensures.missed in
     record {
       same = let_same cpu _ t refl;
       taken = λ e. record { took = subst (λ (n : ℕ). Took d Try l (first_node n) s new) c.number-number.ensures (c.try_lock.ensures.took e); rests = let_rests t };

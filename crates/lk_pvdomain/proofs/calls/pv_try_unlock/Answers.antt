@@ -34,7 +34,7 @@ let_or_still : (d : Domain) (l : ℕ) (own : NodeName) (old new : Seat Slot View
     → (b ≡ true → Ended d Unlock l own (first_of Unlock l old) Frees new) → (b ≡ false → IsAsItWas old new)
     → (new.table_id ≡ old.table_id) × (new.id ≡ old.id) × IsKept old.me new.me
 let_or_still d l own old new true freed still =
-    let t = is_let d l own old new (freed refl) in (t.table_was, t.id_was, record { who = t.who; slots = t.slots; out = t.out })
+    let t = is_let old new (freed refl) in (t.table_was, t.id_was, record { who = t.who; slots = t.slots; out = t.out })
 let_or_still d l own old new false freed still =
     let s = still refl in (
       s.table,
@@ -74,7 +74,7 @@ returns c =
       freed = λ is. record {
         ended = freed is;
         none = freed_none d l own cpu.seat _ (freed is);
-        rests = let_rests (is_let d l own cpu.seat _ (freed is));
+        rests = let_rests (is_let cpu.seat _ (freed is));
       };
       others = λ is. freed_others d l own cpu.seat _ (freed is);
       whom = c.try_unlock.ensures.whom;

@@ -37,7 +37,7 @@ invariant_of-cpu g c =
     let own = own_node cpu in
     let e = c.release.ensures.freed own (first_of Unlock l cpu.seat)
     (c.free-met.ensures.tried own (rests_of d cpu c.requires.domain c.requires.rests)) in
-    let k = let_cpu d cpu c.requires.domain _ (is_let d.domain l own cpu.seat _ e) in
+    let k = let_cpu d cpu c.requires.domain _ (is_let cpu.seat _ e) in
     record {
       numbered = k.numbered;
       noted = λ e. absurd (k.awake e);
@@ -51,7 +51,7 @@ invariant_of-cpu-else-met-ne-HELD g c =
     let cpu = c.args.cpu.now in
     let own = own_node cpu in
     let e = c.free-met.ensures.freed c.if-met-ne-HELD.false own (rests_of d cpu c.requires.domain c.requires.rests) in
-    let k = let_cpu d cpu c.requires.domain _ (is_let d.domain c.args.lock.index own cpu.seat _ e) in
+    let k = let_cpu d cpu c.requires.domain _ (is_let cpu.seat _ e) in
     record {
       numbered = k.numbered;
       noted = λ e. absurd (k.awake e);
@@ -67,7 +67,7 @@ returns-then-met-ne-HELD g c =
     let own = own_node cpu in
     let e = c.release.ensures.freed own (first_of Unlock l cpu.seat)
     (c.free-met.ensures.tried own (rests_of c.args.domain.now cpu c.requires.domain c.requires.rests)) in
-    let t = is_let d l own cpu.seat _ e in
+    let t = is_let cpu.seat _ e in
     record {
       same = let_same cpu _ t refl;
       freed = record { ended = e; none = freed_none d l own cpu.seat _ e; rests = let_rests t };
@@ -81,7 +81,7 @@ returns-else-met-ne-HELD g c =
     let l = c.args.lock.index in
     let own = own_node cpu in
     let e = c.free-met.ensures.freed c.if-met-ne-HELD.false own (rests_of c.args.domain.now cpu c.requires.domain c.requires.rests) in
-    let t = is_let d l own cpu.seat _ e in
+    let t = is_let cpu.seat _ e in
     record {
       same = let_same cpu _ t refl;
       freed = record { ended = e; none = freed_none d l own cpu.seat _ e; rests = let_rests t };

@@ -1,5 +1,5 @@
 use Rattle.std.proofs.Common.{List, Some, refl, sym, subst, ap, ◌∙◌, ◌<◌, arith}
-use Rattle.lk_domain.specs.Calls.{Hold, lock_name}
+use Rattle.lk_domain.specs.Calls.{Frees, Hold, lock_name}
 use Rattle.lk_domain.specs.Ledgers.{Ledger}
 use Rattle.lk_domain.specs.Values.{out_in}
 use Rattle.lk_domain.proofs.Outs.{freed_out}
@@ -8,7 +8,7 @@ use Rattle.lk_domain.specs.Words.{IsNode}
 use Rattle.lk_domain.specs.declared.plan.Plan.{Plan}
 use Rattle.lk_domain.specs.declared.locks.moves.WordUse.TheVariants.{Drops}
 use Rattle.lk_pvdomain.proofs.ways.Leads.{word_asks, seek_asks}
-use Rattle.lk_pvdomain.proofs.ways.Frees.{u3_finds, u4_frees, u5_kicks, kick_asks, out_freed, pair_cpu, freed_once, kicked}
+use Rattle.lk_pvdomain.proofs.ways.Frees.{u3_finds, u4_frees, u5_kicks, kick_asks, out_kept, pair_cpu, freed_once, kicked}
 use Rattle.lk_pvdomain.proofs.freeing.kick_next.Goals as goal
 
 pub take_out-pair-requires : goal.take_out-pair-requires
@@ -44,7 +44,7 @@ kick-requires c =
       on = (_, x.1.of);
       target = subst (λ n. n < cpus_of c.args.domain.now.plan) (sym cpu) near.cpu;
       row = kick_asks x.1 _ (sym cpu) (record {
-        journal = λ e. ap (λ (y : Ledger). y.out) x.1.ledger ∙ (out_freed c.requires.at.1.ledger c.args.lock x.0
+        journal = λ e. ap (λ (y : Ledger). y.out) x.1.ledger ∙ (out_kept Frees c.requires.at.1.ledger c.args.lock x.0
             ∙ (ap (λ (y : Ledger). y.out) (sym v.ledger) ∙ c.requires.home e));
         value = λ plain. ap (λ (hs : List Hold). out_in hs c.args.lock) x.1.holds
             ∙ freed_out 0 (lock_name c.args.lock) c.requires.at.1.holds c.args.lock

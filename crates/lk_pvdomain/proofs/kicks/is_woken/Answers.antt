@@ -1,5 +1,5 @@
 use Rattle.std.proofs.lemmas.Bool.{eqb-true, eqb-false}
-use Rattle.lk_pvdomain.proofs.ways.Arrives.{un_off, un_on}
+use Rattle.lk_pvdomain.proofs.ways.Leads.{un_off, un_on}
 use Rattle.lk_pvdomain.proofs.kicks.is_woken.Goals as goal
 
 pub returns-clause-woken : goal.returns-clause-woken

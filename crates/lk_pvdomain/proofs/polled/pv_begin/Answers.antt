@@ -44,7 +44,7 @@ returns c =
       same = same_since cpu _ (since_first l cpu.seat) (since_comes d l (own_node cpu) s seat place came) refl;
       taken = λ e.
           let t = subst (λ o. Comes d l (own_node cpu) o s seat) (c.turn_of.ensures.has e) came in
-          record { took = t; rests = record { frames = t.over.frames; awake = t.over.awake; fresh = t.over.fresh } };
+          record { took = t; rests = record { frames = t.frames; awake = t.still.awake; fresh = t.still.fresh } };
       halted = asleep_comes d l (own_node cpu) s seat place came ∙ sym c.turn_of.ensures.halted;
       lock = λ w e. lock_of c.args.lock place w (sym c.turn_of.ensures.waiter ∙ e);
       waits = λ w e. waits_of c.args.domain.now c.args.lock _ place s w c.requires.lock (sym c.turn_of.ensures.waiter ∙ e) came;

@@ -53,7 +53,7 @@ returns c =
       same = same_since cpu _ (since_rests d l own s cpu.seat rest old) (since_comes d l own s seat place (came s old)) refl;
       taken = λ e s w.
           let t = subst (λ o. Comes d l own o s seat) (c.turn_of.ensures.has e) (came s w.rests) in
-          record { took = t; rests = record { frames = t.over.frames; awake = t.over.awake; fresh = t.over.fresh } };
+          record { took = t; rests = record { frames = t.frames; awake = t.still.awake; fresh = t.still.fresh } };
       halted = asleep_comes d l own s seat place (came s old) ∙ sym c.turn_of.ensures.halted;
       lock = λ w e. lock_of lock place w (sym c.turn_of.ensures.waiter ∙ e);
       waits = λ w e s v. waits_of c.args.domain.now lock _ place s w v.low (sym c.turn_of.ensures.waiter ∙ e) (came s v.rests);

@@ -13,7 +13,7 @@ take_free-requires-clause-row c =
     let d = c.args.domain.now in
     let a = c.args.cpu.now in
     plain_in (takes_by Try) (view_of a) Try (record { index = c.args.lock.index; wait = false }) refl refl
-    (way.acts_next (takes_by Try) d.plan a.number Try c.args.lock.index T2 c.requires.waits.0 (view_of a) (seat_of d a c.requires.domain) refl c.requires.waits.1 refl)
+    (way.acts_next (takes_by Try) d.plan a.number Try c.args.lock.index T2 c.requires.waits.0 (view_of a) c.requires.waits.1 refl)
 
 pub returns-clause-taken : goal.returns-clause-taken
 returns-clause-taken c is old at =

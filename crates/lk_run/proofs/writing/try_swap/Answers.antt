@@ -1,4 +1,3 @@
-use Rattle.std.proofs.Common.{refl}
 use Rattle.lk_names.specs.declared.holder.Manner.TheVariants.{Writes}
 use Rattle.lk_rows.specs.declared.parts.Pc.TheVariants.{Y5}
 use Rattle.lk_rows.specs.declared.setup.Verb.TheVariants.{TryWrite}
@@ -12,7 +11,7 @@ use Rattle.lk_run.proofs.writing.try_swap.Goals as goal
 
 pub empty_to_writer-requires-clause-row : goal.empty_to_writer-requires-clause-row
 empty_to_writer-requires-clause-row c =
-    try.acts_try c.args.domain.now TryWrite c.args.lock.index Y5 c.args.cpu.now c.requires.waits.0 c.requires.waits.1 refl
+    try.acts_try c.args.domain.now TryWrite c.args.lock.index Y5 c.args.cpu.now c.requires.waits.0 c.requires.waits.1
     (seizes_at (waits_in (calls_of c.args.cpu.now).frames c.args.lock.index) TryWrite) (try.seizes_Y5 (waits_in (calls_of c.args.cpu.now).frames c.args.lock.index))
 
 pub returns-clause-taken : goal.returns-clause-taken
@@ -22,7 +21,7 @@ returns-clause-taken c is old at =
     let b = c.empty_to_writer.new.cpu in
     let l = c.args.lock.index in
     let made = c.empty_to_writer.ensures.step.by in
-    try.on_gains d TryWrite l a b c.empty_to_writer.ensures.rest c.requires.domain refl refl made Y5 old at Writes
+    try.on_gains d TryWrite l a b c.empty_to_writer.ensures.rest c.requires.domain made Y5 old at Writes
     (λ f. row.once_enters d.plan.mode b.number f made.found (empty_by c.empty_to_writer.result made.found made.word is))
 
 pub returns-clause-missed : goal.returns-clause-missed
@@ -32,5 +31,5 @@ returns-clause-missed c is old at =
     let b = c.empty_to_writer.new.cpu in
     let l = c.args.lock.index in
     let made = c.empty_to_writer.ensures.step.by in
-    try.on_misses d TryWrite l a b c.empty_to_writer.ensures.rest c.requires.domain refl refl made Y5 old at
+    try.on_misses d TryWrite l a b c.empty_to_writer.ensures.rest c.requires.domain made Y5 old at
     (λ f. row.once_fails d.plan.mode b.number f made.found (full_by c.empty_to_writer.result made.found made.word is))

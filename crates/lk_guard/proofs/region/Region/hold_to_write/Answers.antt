@@ -1,4 +1,4 @@
-use Rattle.std.proofs.Common.{sym, ◌∙◌, subst}
+use Rattle.std.proofs.Common.{refl, sym, ◌∙◌, subst}
 use Rattle.lk_names.specs.declared.holder.Manner.TheVariants.{Writes}
 use Rattle.lk_names.specs.declared.names.Kind.{Kind}
 use Rattle.lk_rows.specs.declared.setup.Verb.TheVariants.{Write}
@@ -15,7 +15,7 @@ returns-in-Spin-clause-begun g c =
     let before = g.I.Irq.polls c.args.irq.now in
     let after = g.I.Irq.polls c.lock.new.irq in
     subst (λ (q : Kind). HasBegun (guard_in d.plan) (writes_by q) (writes_as q) a b before after) (sym (c.args.self.now.kind ∙ c.in-Spin.is))
-    (lock_begins d a b before after c.requires.idle c.requires.domain.awake c.lock.ensures.taken c.lock.ensures.look c.lock.ensures.polls)
+    (lock_begins d a b before after c.requires.idle c.lock.ensures.taken c.lock.ensures.look c.lock.ensures.polls)
 
 pub returns-in-Rw-clause-begun : goal.returns-in-Rw-clause-begun
 returns-in-Rw-clause-begun g c =
@@ -25,4 +25,4 @@ returns-in-Rw-clause-begun g c =
     let before = g.I.Irq.polls c.args.irq.now in
     let after = g.I.Irq.polls c.write_lock.new.irq in
     subst (λ (q : Kind). HasBegun (guard_in d.plan) (writes_by q) (writes_as q) a b before after) (sym (c.args.self.now.kind ∙ c.in-Rw.is))
-    (entry_begins d a b before after c.requires.idle c.requires.domain.awake Write Writes c.write_lock.ensures.entered)
+    (entry_begins d a b before after c.requires.idle Write Writes refl c.write_lock.ensures.entered)

@@ -2,6 +2,7 @@ use Rattle.lk_domain.specs.Calls.{sight_by, sight_of, terms_of, told, told_by}
 use Rattle.lk_domain.specs.NodePlays.{counting}
 use Rattle.lk_domain.specs.Plays.{rowed}
 use Rattle.lk_domain.specs.Seats.{IsOf, calls_of, view_of}
+use Rattle.lk_domain.specs.Standing.{Outside}
 use Rattle.lk_domain.specs.Words.{IsNode, link_number, marked}
 use Rattle.lk_domain.specs.declared.plan.Plan.{Plan}
 use Rattle.lk_domain.specs.declared.view.View.{View}
@@ -14,7 +15,6 @@ use Rattle.lk_rows.specs.Searching.{first_by}
 use Rattle.lk_run.specs.Choices.{IsFirstNode}
 use Rattle.lk_run.specs.Frames.{Flushes, Fronts, Precedes, Promotes, Skips}
 use Rattle.lk_run.specs.Phases.{newest}
-use Rattle.lk_run.specs.Standing.{Outside}
 use Rattle.lk_word.specs.declared.spin_word.NodeName.{NodeName}
 use Rattle.std.proofs.Common.{IfSome, Some, ap, refl, subst, sym, ◌∙◌, ◌≡◌}
 use Rattle.std.specs.Prelude.{is_some}

@@ -1,5 +1,6 @@
 use Rattle.lk_domain.specs.Calls.{sight_by, sight_of, terms_of}
 use Rattle.lk_domain.specs.Seats.{calls_of}
+use Rattle.lk_domain.specs.Standing.{Outside}
 use Rattle.lk_domain.specs.Words.{IsNode, link_number, marked}
 use Rattle.lk_domain.specs.declared.plan.Plan.{Plan}
 use Rattle.lk_law.specs.Leads.{Linked}
@@ -9,7 +10,6 @@ use Rattle.lk_run.proofs.Ways.{sees}
 use Rattle.lk_rows.specs.Searching.{more_by}
 use Rattle.lk_run.specs.Choices.{IsMoreNode}
 use Rattle.lk_run.specs.Frames.{Appends, Flushes, Parts, Precedes, Skips}
-use Rattle.lk_run.specs.Standing.{Outside}
 use Rattle.std.proofs.Common.{IfSome, Some, ap, subst, sym, ◌∙◌, ◌≡◌}
 use Rattle.lk_run.proofs.ChoiceRows as choice
 use Rattle.lk_run.proofs.Calling as on

@@ -10,23 +10,12 @@ use Rattle.lk_rows.specs.Moves.{wait_name}
 use Rattle.lk_law.specs.Sound.{after_wait, takes_wait}
 use Rattle.lk_domain.specs.Calls.{Terms, Mark, running, hold, held_in, Hold, Calls, begun, lock_name}
 use Rattle.lk_domain.specs.Paths.{Walk}
-use Rattle.lk_domain.specs.declared.domain.Domain.{Domain}
 
 -- which locks a call has: none, the wait lock of its lock, or its lock in this manner besides
 pub data Stage : Type 0 where
   Outside : Stage
   Inside : Stage
   Entered : Manner → Stage
-
--- which call waits: what of its lock it has, its domain, its operation, and the lock on which it acts
-pub record Waiter : Type 0 where
-  pub stage : Stage
-  pub domain : Domain
-  pub verb : Verb
-  pub lock : LockName
-
-abbrev pub waiter : Stage → Domain → Verb → LockName → Waiter
-waiter stage domain verb lock = record { stage = stage; domain = domain; verb = verb; lock = lock }
 
 -- how many locks a call has at a stage
 abbrev pub locks_at : Stage → ℕ
@@ -60,3 +49,9 @@ pub record IsOn (t : Terms) (p : ℕ) (v : Verb) (n : LockName) (c : Pc)
   pub after : n.wait ≡ true → frame.then ≡ after_wait v
   pub free : takes_wait v ≡ true → held_in old.holds (length old.frames) (wait_name n.index) ≡ None
   pub has : condition frame
+
+-- the call v on l stands so, has no lock yet, and none was taken since it began
+pub record IsAt (t : Terms) (p : ℕ) (v : Verb) (l : ℕ) (c : Pc) (condition : Frame → Type 0)
+    (old new : Calls) : Type 0 where
+  pub on : IsOn t p v (lock_name l) c condition Outside old new
+  pub taken : new.taken ≡ old.taken
