@@ -6,7 +6,7 @@ use Rattle.lk_names.specs.Names.{same_lock}
 use Rattle.lk_names.specs.declared.holder.Manner.{Manner}
 use Rattle.lk_law.proofs.common.Puts.{if-true, if-false}
 use Rattle.lk_law.proofs.common.Sames.{same_lock-self}
-use Rattle.lk_domain.specs.Calls.{Hold, holds_in, hold_in, lock_name, moved_to, free_of}
+use Rattle.lk_domain.specs.Calls.{Hold, holds_in, hold_in, lock_name, moved_to, free_of, way_in}
 use Rattle.lk_domain.specs.Values.{marked_out, out_in}
 
 -- the newest hold is that of the lock
@@ -21,6 +21,10 @@ found l n m b hs = if-true (same_lock (lock_name l) (lock_name l)) (Some (m, b))
 pub held : (l n : ℕ) (m : Manner) (b : Bool) (hs : List Hold)
     → holds_in (record { ctx = 0; lock = lock_name l; manner = m; nth = n; out = b } ∷ hs) l ≡ true
 held l n m b hs = if-true (same_lock (lock_name l) (lock_name l)) true (holds_in hs l) (same_lock-self (lock_name l))
+
+pub way : (l n : ℕ) (m : Manner) (b : Bool) (hs : List Hold)
+    → way_in (record { ctx = 0; lock = lock_name l; manner = m; nth = n; out = b } ∷ hs) l ≡ Some m
+way l n m b hs = if-true (same_lock (lock_name l) (lock_name l)) (Some m) (way_in hs l) (same_lock-self (lock_name l))
 
 pub marked : (l n : ℕ) (m : Manner) (a b : Bool) (hs : List Hold)
     → marked_out l b (record { ctx = 0; lock = lock_name l; manner = m; nth = n; out = a } ∷ hs)

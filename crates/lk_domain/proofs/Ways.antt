@@ -3,36 +3,41 @@ use Rattle.std.proofs.Common.{◌≡◌, ℕ, ◌+◌, List, [], ◌∷◌, ◌+
 use Rattle.std.proofs.Common.{eqb, refl, sym, ap, ◌∙◌, subst, arith}
 use Rattle.std.specs.Prelude.{if◌then◌else◌}
 use Rattle.atomic_table.specs.Table.{Me}
-use Rattle.lk_names.specs.declared.holder.Manner.TheVariants.{Spins}
+use Rattle.lk_names.specs.declared.holder.Manner.{Manner}
+use Rattle.lk_names.specs.declared.holder.Manner.TheVariants.{Reads, Spins, Writes}
 use Rattle.lk_names.specs.declared.names.LockName.{LockName}
 use Rattle.lk_names.specs.declared.names.Mode.{Mode}
 use Rattle.lk_names.specs.declared.names.Mode.TheVariants.{Virt, Native, Cna, Pv}
 use Rattle.lk_word.specs.declared.spin_word.Fields.{Fields}
 use Rattle.lk_word.specs.declared.spin_word.Layout.{Layout}
 use Rattle.lk_word.specs.SpinWord.{packed}
+use Rattle.lk_word.specs.declared.rw_word.RwFields.{RwFields}
 use Rattle.lk_rows.specs.declared.parts.Frame.{Frame}
 use Rattle.lk_rows.specs.declared.parts.Pc.{Pc}
-use Rattle.lk_rows.specs.declared.parts.Pc.TheVariants.{F1, T1, T2, U1}
+use Rattle.lk_rows.specs.declared.parts.Pc.TheVariants.{F1, R1, T1, T2, U1, Wr1}
 use Rattle.lk_rows.specs.declared.setup.Verb.{Verb}
-use Rattle.lk_rows.specs.declared.setup.Verb.TheVariants.{Lock, Try, Unlock}
-use Rattle.lk_rows.specs.Moves.{first_place}
+use Rattle.lk_rows.specs.declared.setup.Verb.TheVariants.{Lock, Read, Try, Unlock, Write}
+use Rattle.lk_rows.specs.Moves.{first_place, rw_name, wait_name}
 use Rattle.lk_rows.specs.Programs.{kind_of}
 use Rattle.lk_names.specs.declared.names.Kind.TheVariants.{Spin}
+use Rattle.lk_rows.specs.rows.Rw.{is_empty, is_open}
 use Rattle.lk_rows.specs.rows.Spin.{is_free}
 use Rattle.lk_rows.specs.TopRow.{target}
 use Rattle.lk_law.specs.Agree.{halts}
-use Rattle.lk_law.specs.Leads.{Met, Word}
+use Rattle.lk_law.specs.Leads.{Met, Shared, Word, held_lock}
 use Rattle.lk_law.specs.Sound.{takes_wait}
 use Rattle.lk_domain.specs.Calls.{terms_of, mark, read_at, Running, running, Calls, StandsAt, acting, begin, lock_name}
 use Rattle.lk_domain.specs.Calls.{Outlook}
 use Rattle.lk_law.specs.Premises.{IsThen}
-use Rattle.lk_domain.specs.Calls.{sight_of, row_of, Unchanged, Takes, Frees, holds_in, waits_in, begun, are_calls}
+use Rattle.lk_domain.specs.Calls.{sight_of, row_of, Unchanged, Takes, Frees, held_in, holds_in, waits_in, begun, are_calls}
 use Rattle.lk_domain.specs.Keeps.{Slot}
 use Rattle.lk_domain.specs.Ledgers.{turned}
 use Rattle.lk_domain.specs.Plans.{kind_at}
 use Rattle.lk_domain.specs.Paths.{next_frame, row_grip, HasTaken, HasMissed, HasFreed, Any}
-use Rattle.lk_domain.specs.Plays.{Acts, MadeBy, turned_on, turned_of, turned_at}
+use Rattle.lk_domain.specs.Plays.{Acts, MadeBy, made as after_row, turned_on, turned_of, turned_at}
 use Rattle.lk_domain.specs.Rows.{frees_by}
+use Rattle.lk_domain.specs.RwPlays.{SharedBy}
+use Rattle.lk_domain.specs.RwRows.{lets_in}
 use Rattle.lk_domain.specs.Standing.{IsAt}
 use Rattle.lk_domain.specs.Views.{own_number}
 use Rattle.lk_domain.specs.declared.plan.Plan.{Plan}
@@ -41,7 +46,7 @@ use Rattle.lk_domain.proofs.Acting.{acting_is, acts_on, begins_on}
 use Rattle.lk_domain.proofs.turns.Courses as rows
 use Rattle.lk_domain.proofs.Freed as freed
 use Rattle.lk_domain.proofs.Freed.{not_on}
-use Rattle.lk_domain.proofs.rows.Grips.{IsOwn, own_lock}
+use Rattle.lk_domain.proofs.rw.Numbers.{empty_test, open_test}
 use Rattle.lk_domain.proofs.words.Numbers.{free_test}
 use Rattle.lk_domain.proofs.Standing as path
 use Rattle.lk_domain.proofs.Turned.{is_taking}
@@ -58,23 +63,20 @@ pub record Moved (k : Plan) (p : ℕ) (v : Verb) (l : ℕ) (c : Pc) (old : Calls
   pub at : IsAt (terms_of k) p v l c Any old n.calls
   pub ledger : n.ledger ≡ m.ledger
 
-pub record Took (k : Plan) (p : ℕ) (v : Verb) (l : ℕ) (old : Calls) (m n : View) : Type 0 where
-  pub taken : HasTaken (terms_of k) p v l Spins old n.calls
+pub record Took (k : Plan) (p : ℕ) (v : Verb) (l : ℕ) (w : Manner) (old : Calls) (m n : View) : Type 0 where
+  pub taken : HasTaken (terms_of k) p v l w old n.calls
   pub once : n.calls.taken ≡ old.taken + 1
-  pub ledger : n.ledger ≡ turned m.ledger (lock_name l) (Takes Spins) n.calls.last
+  pub ledger : n.ledger ≡ turned m.ledger (lock_name l) (Takes w) n.calls.last
 
 pub record Missed (k : Plan) (p : ℕ) (v : Verb) (l : ℕ) (old : Calls) (m n : View) : Type 0 where
   pub missed : HasMissed (terms_of k) p v l old n.calls
   pub ledger : n.ledger ≡ m.ledger
 
 -- a row of a call that stands at it
-module _ (k : Plan) (p : ℕ) (v : Verb) (l : ℕ) (pl : Pc) (old : Calls) (m n : Me Slot View) (met : ℕ)
-    (seat : IsSeat k p m.0) (made : MadeBy v l m met n) (c : Calls)
+module _ (k : Plan) (p : ℕ) (v : Verb) (l : ℕ) (pl : Pc) (old : Calls) (m n : Me Slot View) (x : Met)
+    (seat : IsSeat k p m.0) (step : n ≡ (after_row m.0 v l x, m.1)) (c : Calls)
     (acts : acting k.mode m.0.calls v l ≡ c) (at : IsAt (terms_of k) p v l pl Any old c)
-    (unseen : IsOwn (target pl at.on.frame)) where
-  abbrev x : Met
-  x = Word made.found
-
+    (own : held_lock (target pl at.on.frame) at.on.frame ≡ at.on.frame.lock) where
   abbrev f : Frame
   f = at.on.frame
 
@@ -83,20 +85,20 @@ module _ (k : Plan) (p : ℕ) (v : Verb) (l : ℕ) (pl : Pc) (old : Calls) (m n 
 
   calls : n.0.calls ≡ row_of (terms_of k) p c x
   calls =
-      ap (λ (y : Me Slot View). y.0.calls) made.seat
+      ap (λ (y : Me Slot View). y.0.calls) step
       ∙ ((λ i. row_of (terms_of (seat.plan i)) (own_number (seat.number i)) (acting (seat.plan i).mode m.0.calls v l) x)
       ∙ ap (λ d. row_of (terms_of k) p d x) acts)
 
   turns : n.0.ledger
       ≡ turned m.0.ledger (lock_name l) (row_grip k.mode p z pl f x) (at.on.trail ++ mark pl x (read_at pl z) ∷ [])
   turns =
-      ap (λ (y : Me Slot View). y.0.ledger) made.seat
+      ap (λ (y : Me Slot View). y.0.ledger) step
       ∙ ((λ i. turned_of (terms_of (seat.plan i)) (own_number (seat.number i)) (acting (seat.plan i).mode m.0.calls v l) x m.0.ledger)
       ∙ (ap (λ (d : Calls). turned_of (terms_of k) p d x m.0.ledger) acts
       ∙ (ap (λ (rs : List Running). turned_on k.mode p z rs x m.0.ledger) at.on.frames
       ∙ (ap (λ q. turned_at k.mode p z (running v f at.on.trail) x m.0.ledger q) at.on.place
       ∙ ap (λ (j : LockName). turned m.0.ledger j (row_grip k.mode p z pl f x) (at.on.trail ++ mark pl x (read_at pl z) ∷ []))
-      (own_lock (target pl f) f unseen ∙ at.on.lock)))))
+      (own ∙ at.on.lock)))))
 
   still_turned : row_grip k.mode p z pl f x ≡ Unchanged → n.0.ledger ≡ m.0.ledger
   still_turned grip = turns ∙ ap (λ y. turned m.0.ledger (lock_name l) y (at.on.trail ++ mark pl x (read_at pl z) ∷ [])) grip
@@ -110,15 +112,15 @@ module _ (k : Plan) (p : ℕ) (v : Verb) (l : ℕ) (pl : Pc) (old : Calls) (m n 
         ledger = still_turned grip;
       }
 
-  pub takes : (next_frame k.mode p z pl f x).place ≡ None → row_grip k.mode p z pl f x ≡ Takes Spins
-      → Took k p v l old m.0 n.0
-  takes place grip =
+  pub takes : (w : Manner) → (next_frame k.mode p z pl f x).place ≡ None → row_grip k.mode p z pl f x ≡ Takes w
+      → Took k p v l w old m.0 n.0
+  takes w place grip =
       record {
-        taken = path.takes at.on x calls Spins place grip (own_lock (target pl f) f unseen ∙ at.on.lock);
-        once = path.count_after at.on x calls (Takes Spins) grip ∙ ap (λ n. n + 1) at.taken;
+        taken = path.takes at.on x calls w place grip (own ∙ at.on.lock);
+        once = path.count_after at.on x calls (Takes w) grip ∙ ap (λ n. n + 1) at.taken;
         ledger = turns
             ∙ (λ i. turned m.0.ledger (lock_name l) (grip i) (at.on.trail ++ mark pl x (read_at pl z) ∷ []))
-            ∙ ap (λ ms. turned m.0.ledger (lock_name l) (Takes Spins) ms) (sym (path.last_is at.on x calls place));
+            ∙ ap (λ ms. turned m.0.ledger (lock_name l) (Takes w) ms) (sym (path.last_is at.on x calls place));
       }
 
   pub misses : (next_frame k.mode p z pl f x).place ≡ None → row_grip k.mode p z pl f x ≡ Unchanged
@@ -150,44 +152,86 @@ module _ (mode : Mode) (p : ℕ) (z : Outlook) (f : Frame) (y : Fields) (plain :
   pub T1_lock : is_free y ≡ true → (next_frame mode p z T1 f (Word y)).lock ≡ f.lock
   T1_lock e = rw e refl
 
+-- the first rows of readers and writers
+module _ (mode : Mode) (p : ℕ) (z : Outlook) (f : Frame) (y : RwFields) where
+  R1_place : is_open y ≡ true → (next_frame mode p z R1 f (Shared y)).place ≡ None
+  R1_place e = rw e refl
+
+  R1_grip : is_open y ≡ true → row_grip mode p z R1 f (Shared y) ≡ Takes Reads
+  R1_grip e = rw e refl
+
+  Wr1_place : is_empty y ≡ true → (next_frame mode p z Wr1 f (Shared y)).place ≡ None
+  Wr1_place e = rw e refl
+
+  Wr1_grip : is_empty y ≡ true → row_grip mode p z Wr1 f (Shared y) ≡ Takes Writes
+  Wr1_grip e = rw e refl
+
 -- the lock is no wait lock
 not_wait : (f : Frame) → f.lock.wait ≡ false → f.lock.wait ≡ true → IsThen f.then
 not_wait f plain e = absurd (let z : true ≡ false = sym e ∙ plain in cc z)
 
 -- the rows of a call, by the number that the step met
 module _ (k : Plan) (p : ℕ) (l : ℕ) (m n : Me Slot View) (met : ℕ) (seat : IsSeat k p m.0) where
-  module _ (v : Verb) (t : is_taking v ≡ true) (no : takes_wait v ≡ false) (none : waits_in m.0.calls.frames l ≡ false)
-      (made : MadeBy v l m met n) where
-    abbrev first : IsAt (terms_of k) p v l (first_place k.mode v) Any m.0.calls (begin k.mode m.0.calls v l)
-    first = path.starts (terms_of k) p v l m.0.calls t (path.never_waits v no)
+  module _ (v : Verb) (t : is_taking v ≡ true) (none : waits_in m.0.calls.frames l ≡ false) where
+    abbrev first : (takes_wait v ≡ true → held_in m.0.calls.holds (length m.0.calls.frames) (wait_name l) ≡ None)
+        → IsAt (terms_of k) p v l (first_place k.mode v) Any m.0.calls (begin k.mode m.0.calls v l)
+    first free = path.starts (terms_of k) p v l m.0.calls t free
 
     begun_is : acting k.mode m.0.calls v l ≡ begin k.mode m.0.calls v l
     begun_is = path.acts_begin k.mode m.0.calls v l none
 
   -- F1
   module _ (none : waits_in m.0.calls.frames l ≡ false) (made : MadeBy Lock l m met n) where
-    pub F1_takes : eqb met 0 ≡ true → Took k p Lock l m.0.calls m.0 n.0
+    pub F1_takes : eqb met 0 ≡ true → Took k p Lock l Spins m.0.calls m.0 n.0
     F1_takes h =
-        let at = first Lock refl refl none made in
+        let at = first Lock refl none (path.never_waits Lock refl) in
         let plain = ap (λ (z : LockName). z.wait) at.on.lock in
         let o = rows.takes_free k.mode p {z = sight_of (terms_of k) p None} at.on.frame false plain (not_wait at.on.frame plain) made.found Lock F1 refl (is_zero _ met made.found made.word h) in
-        takes k p Lock l F1 m.0.calls m n met seat made (begin k.mode m.0.calls Lock l) (begun_is Lock refl refl none made) at tt o.place.0 (o.grip plain)
+        takes k p Lock l F1 m.0.calls m n (Word made.found) seat made.seat (begin k.mode m.0.calls Lock l) (begun_is Lock refl none) at refl Spins o.place.0 (o.grip plain)
+
+  -- R1 and Wr1, on the word of a reader-writer lock
+  module _ (none : waits_in m.0.calls.frames l ≡ false) where
+    shared : {v : Verb} {pl : Pc} (at : IsAt (terms_of k) p v l pl Any m.0.calls (begin k.mode m.0.calls v l))
+        → rw_name at.on.frame.lock.index ≡ at.on.frame.lock
+    shared at = ap (λ (z : LockName). rw_name z.index) at.on.lock ∙ sym at.on.lock
+
+    outside : {v : Verb} → SharedBy v l m met n → held_in m.0.calls.holds (length m.0.calls.frames) (wait_name l) ≡ None
+    outside made = made.outside (length m.0.calls.frames) (omega arith)
+
+    pub R1_takes : (made : SharedBy Read l m met n) → lets_in met ≡ true → Took k p Read l Reads m.0.calls m.0 n.0
+    R1_takes made h =
+        let at = first Read refl none (λ _. outside made) in
+        let e = sym (open_test made.found) ∙ (ap lets_in (sym made.word) ∙ h) in
+        let z = sight_of (terms_of k) p None in
+        takes k p Read l R1 m.0.calls m n (Shared made.found) seat made.seat (begin k.mode m.0.calls Read l) (begun_is Read refl none) at (shared at) Reads
+        (R1_place k.mode p z at.on.frame made.found e) (R1_grip k.mode p z at.on.frame made.found e)
+
+    pub Wr1_takes : (made : SharedBy Write l m met n) → eqb met 0 ≡ true → Took k p Write l Writes m.0.calls m.0 n.0
+    Wr1_takes made h =
+        let at = first Write refl none (λ _. outside made) in
+        let e = sym (empty_test made.found) ∙ (ap (λ (w : ℕ). eqb w 0) (sym made.word) ∙ h) in
+        let z = sight_of (terms_of k) p None in
+        takes k p Write l Wr1 m.0.calls m n (Shared made.found) seat made.seat (begin k.mode m.0.calls Write l) (begun_is Write refl none) at (shared at) Writes
+        (Wr1_place k.mode p z at.on.frame made.found e) (Wr1_grip k.mode p z at.on.frame made.found e)
 
   -- T1
   module _ (none : waits_in m.0.calls.frames l ≡ false) (made : MadeBy Try l m met n) where
     pub T1_sees : eqb met 0 ≡ true → Moved k p Try l T2 m.0.calls m.0 n.0
     T1_sees h =
-        let at = first Try refl refl none made in
+        let at = first Try refl none (path.never_waits Try refl) in
+        let plain = ap (λ (z : LockName). z.wait) at.on.lock in
         let e = is_zero _ met made.found made.word h in
-        moves k p Try l T1 m.0.calls m n met seat made (begin k.mode m.0.calls Try l) (begun_is Try refl refl none made) at tt T2
-        (T1_free k.mode p (sight_of (terms_of k) p None) at.on.frame made.found (ap (λ (z : LockName). z.wait) at.on.lock) e) (T1_grip k.mode p (sight_of (terms_of k) p None) at.on.frame made.found (ap (λ (z : LockName). z.wait) at.on.lock) e)
-        (T1_lock k.mode p (sight_of (terms_of k) p None) at.on.frame made.found (ap (λ (z : LockName). z.wait) at.on.lock) e)
+        let z = sight_of (terms_of k) p None in
+        moves k p Try l T1 m.0.calls m n (Word made.found) seat made.seat (begin k.mode m.0.calls Try l) (begun_is Try refl none) at refl T2
+        (T1_free k.mode p z at.on.frame made.found plain e) (T1_grip k.mode p z at.on.frame made.found plain e)
+        (T1_lock k.mode p z at.on.frame made.found plain e)
 
     pub T1_misses : eqb met 0 ≡ false → Missed k p Try l m.0.calls m.0 n.0
     T1_misses h =
-        let at = first Try refl refl none made in
-        let o = rows.looks_held k.mode p {z = sight_of (terms_of k) p None} at.on.frame false (ap (λ (z : LockName). z.wait) at.on.lock) (not_wait at.on.frame (ap (λ (z : LockName). z.wait) at.on.lock)) made.found Try T1 refl (not_zero _ met made.found made.word h) in
-        misses k p Try l T1 m.0.calls m n met seat made (begin k.mode m.0.calls Try l) (begun_is Try refl refl none made) at tt o.place.0 (o.grip (ap (λ (z : LockName). z.wait) at.on.lock))
+        let at = first Try refl none (path.never_waits Try refl) in
+        let plain = ap (λ (z : LockName). z.wait) at.on.lock in
+        let o = rows.looks_held k.mode p {z = sight_of (terms_of k) p None} at.on.frame false plain (not_wait at.on.frame plain) made.found Try T1 refl (not_zero _ met made.found made.word h) in
+        misses k p Try l T1 m.0.calls m n (Word made.found) seat made.seat (begin k.mode m.0.calls Try l) (begun_is Try refl none) at refl o.place.0 (o.grip plain)
 
   -- the rows of a call that goes on
   module _ (old : Calls) where
@@ -196,15 +240,15 @@ module _ (k : Plan) (p : ℕ) (l : ℕ) (m n : Me Slot View) (met : ℕ) (seat :
 
     -- T2
     module _ (made : MadeBy Try l m met n) (at : IsAt (terms_of k) p Try l T2 Any old m.0.calls) where
-      pub T2_takes : eqb met 0 ≡ true → Took k p Try l old m.0 n.0
+      pub T2_takes : eqb met 0 ≡ true → Took k p Try l Spins old m.0 n.0
       T2_takes h =
           let o = rows.takes_free k.mode p {z = sight_of (terms_of k) p m.0.calls.runs} at.on.frame false (plain at) (not_wait at.on.frame (plain at)) made.found Try T2 refl (is_zero _ met made.found made.word h) in
-          takes k p Try l T2 old m n met seat made m.0.calls (acting_is m.0.calls Try (lock_name l) T2 (path.stands at.on) k.mode) at tt o.place.0 (o.grip (ap (λ (z : LockName). z.wait) at.on.lock))
+          takes k p Try l T2 old m n (Word made.found) seat made.seat m.0.calls (acting_is m.0.calls Try (lock_name l) T2 (path.stands at.on) k.mode) at refl Spins o.place.0 (o.grip (ap (λ (z : LockName). z.wait) at.on.lock))
 
       pub T2_misses : eqb met 0 ≡ false → Missed k p Try l old m.0 n.0
       T2_misses h =
           let o = rows.takes_held k.mode p {z = sight_of (terms_of k) p m.0.calls.runs} at.on.frame false (plain at) (not_wait at.on.frame (plain at)) made.found Try T2 refl (not_zero _ met made.found made.word h) in
-          misses k p Try l T2 old m n met seat made m.0.calls (acting_is m.0.calls Try (lock_name l) T2 (path.stands at.on) k.mode) at tt o.place.0 (o.grip (ap (λ (z : LockName). z.wait) at.on.lock))
+          misses k p Try l T2 old m n (Word made.found) seat made.seat m.0.calls (acting_is m.0.calls Try (lock_name l) T2 (path.stands at.on) k.mode) at refl o.place.0 (o.grip (ap (λ (z : LockName). z.wait) at.on.lock))
 
 -- what the step calls ask
 

@@ -26,3 +26,4 @@ pub mod Standing
 pub mod Waits
 pub mod Uses
 pub mod RwUses
+pub mod Turns

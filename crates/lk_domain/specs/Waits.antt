@@ -1,10 +1,8 @@
 -- What contracts of the calls say of a processor and its domain.
 use Rattle.std.specs.Prelude.{◌≡◌, ℕ, ◌+◌, ◌<◌, false, length}
 use Rattle.lk_names.specs.declared.holder.Manner.{Manner}
-use Rattle.lk_names.specs.declared.holder.Manner.TheVariants.{Spins}
 use Rattle.lk_rows.specs.declared.parts.Pc.{Pc}
 use Rattle.lk_rows.specs.declared.setup.Verb.{Verb}
-use Rattle.lk_rows.specs.declared.setup.Verb.TheVariants.{Lock}
 use Rattle.lk_domain.specs.Calls.{terms_of, Calls, Takes, Frees, holds_in, waits_in, lock_name}
 use Rattle.lk_domain.specs.Ledgers.{turned}
 use Rattle.lk_domain.specs.Paths.{HasTaken, HasMissed, HasFreed, Any}
@@ -48,13 +46,3 @@ pub record Drops (l : ℕ) (before after : Cpu) : Type 0 where
   pub freed : HasFreed l (calls_of before) (calls_of after)
   pub ledger : ledger_of after
       ≡ turned (ledger_of before) (lock_name l) Frees (calls_of after).last
-
--- A turn of a processor in no call: a free spinlock was taken by the one row F1 and freed by U1, and no other
--- lock was taken. The processor holds what it held.
-pub record Turns (domain : Domain) (l : ℕ) (old new : Cpu) : Type 0 where
-  pub inside : Calls
-  pub taken : HasTaken (terms_of domain.plan) old.number Lock l Spins (calls_of old) inside
-  pub once : inside.taken ≡ (calls_of old).taken + 1
-  pub freed : HasFreed l inside (calls_of new)
-  pub holds : (calls_of new).holds ≡ (calls_of old).holds
-  pub home : (ledger_of new).out ≡ (ledger_of old).out

@@ -27,7 +27,7 @@ mod view;
 pub use cpu::{Cpu, Right};
 pub use domain::{Domain, LockId};
 pub use ending::{CloseBack, Closed, close};
-pub use free_turns::{Waiting, turn};
+pub use free_turns::{Waiting, turn, work_held};
 pub use ledger::{Journal, journal_home, journal_out, load, steps as ledger_steps, store, version};
 pub use locks::{moves, node_moves, steps};
 pub use making::{opening_slots, opening_words};

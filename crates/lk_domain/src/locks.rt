@@ -7,7 +7,7 @@ mod choice_steps;
 pub mod moves;
 pub mod node_moves;
 mod queue_steps;
-mod rw_moves;
+pub(crate) mod rw_moves;
 mod rw_steps;
 pub mod steps;
 mod verbs;

@@ -1,5 +1,5 @@
 // A new domain, and its processors.
-ghost use Rattle.std.specs.Prelude.{◌≡◌, ◌+◌, ◌<◌, [], ◌∷◌, Some, None, IfOk, false, length, map, slice_set};
+ghost use Rattle.std.specs.Prelude.{◌≡◌, ◌+◌, ◌<◌, ◌∷◌, Some, None, IfOk, false, length, map, slice_set};
 ghost use Rattle.lk_domain.specs.Calls.{no_calls};
 ghost use Rattle.lk_domain.specs.Ledgers.{no_ledger};
 ghost use Rattle.lk_domain.specs.Plans.{IsLawfulPlan, IsRunningPlan, IsSamePlan, cpus_of};
@@ -10,7 +10,7 @@ ghost use Rattle.lk_domain.specs.Seats.{IsDealt, AreDealt};
 ghost use Rattle.lk_domain.specs.Values.{AreLaid, AreShut, homes_of, keys_of, lodged};
 ghost use Rattle.lk_domain.specs.declared.slot.Stowed.TheVariants.{Entries};
 ghost use Rattle.lk_domain.specs.Views.{view, dealer};
-ghost use Rattle.lk_domain.specs.Words.{words_of, halting_words, IsOpening};
+ghost use Rattle.lk_domain.specs.Words.{halting_words, IsOpening};
 
 use crate::cpu::{Cpu, Right};
 use crate::domain::Domain;

@@ -25,7 +25,7 @@ use crate::slot::{Slot, Stowed};
 use lk_cell::Key;
 
 // The home of the copy of a lock for a processor.
-fn copy_home(plan: &Plan, lock: u32, number: u32) -> usize
+pub(crate) fn copy_home(plan: &Plan, lock: u32, number: u32) -> usize
     requires lawful { IsRunningPlan plan.now }
     requires lock { lock < locks_of plan.now }
     requires number { number < cpus_of plan.now }

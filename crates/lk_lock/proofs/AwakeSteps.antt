@@ -1,27 +1,31 @@
 -- The same where the family spins, by what the calls of `lk_run` leave.
-use Rattle.std.proofs.Common.{◌≡◌, ℕ, ◌+◌, ◌-◌, List, length, None, Bool, true, false, refl, sym, ap, ◌∙◌, subst, inl, inr}
+use Rattle.std.proofs.Common.{◌≡◌, ℕ, ◌+◌, ◌-◌, List, length, None, Bool, true, false, refl, sym, ap, ◌∙◌, subst, inl, inr, arith}
 use Rattle.std.proofs.lemmas.Bool.{cases_Bool}
 use Rattle.std.specs.Prelude.{if◌then◌else◌}
 use Rattle.lk_names.specs.declared.holder.Manner.{Manner}
-use Rattle.lk_names.specs.declared.holder.Manner.TheVariants.{Spins, Writes}
+use Rattle.lk_names.specs.declared.holder.Manner.TheVariants.{Reads, Spins, Writes}
 use Rattle.lk_names.specs.declared.names.Kind.TheVariants.{Rw, Spin}
 use Rattle.lk_names.specs.declared.names.LockName.{LockName}
 use Rattle.lk_law.specs.Agree.{halts}
 use Rattle.lk_rows.specs.declared.setup.Verb.{Verb}
 use Rattle.lk_rows.specs.declared.parts.Pc.{Pc}
-use Rattle.lk_rows.specs.declared.setup.Verb.TheVariants.{Lock, TryWrite}
+use Rattle.lk_rows.specs.declared.parts.Pc.TheVariants.{Z1, Z2}
+use Rattle.lk_rows.specs.declared.setup.Verb.TheVariants.{Lock, Read, TryWrite, Write}
 use Rattle.lk_domain.specs.Calls.{Calls, Frees, Mark, Running, Takes, begun, free_of, holds_in, lock_name, moved_to, terms_of, waits_in}
 use Rattle.lk_domain.specs.Ledgers.{Ledger, closed, is_first, turned}
 use Rattle.lk_domain.specs.Paths.{HasFreed, HasLooked, HasMissed, HasTaken, Path}
 use Rattle.lk_domain.specs.Seats.{IsOf, IsSame, KeepsRest, calls_of, ledger_of}
-use Rattle.lk_domain.specs.Waits.{Drops, Gains, Misses, Turns}
+use Rattle.lk_domain.specs.Turns.{HasLeft, Turns}
+use Rattle.lk_domain.specs.Waits.{Drops, Gains, Misses}
 use Rattle.lk_domain.specs.declared.cpu.Cpu.{Cpu}
 use Rattle.lk_domain.specs.declared.domain.Domain.{Domain}
+use Rattle.lk_domain.proofs.FreeTurns.{freed_frames}
 use Rattle.lk_domain.proofs.Seating.{of_in}
 use Rattle.lk_pvdomain.specs.PvCalls.{IsResting}
 use Rattle.lk_run.specs.Entering.{HasEntered, Leaves}
 use Rattle.lk_run.specs.Phases.{Holds, starting}
-use Rattle.lk_lock.specs.Standing.{EntersLock, EntersOnce, FreesLock, IsAsBefore, IsHolding, IsOfKind, IsReady, LeavesLock, StaysOut, TakesLock, TurnsLock, holds_of}
+use Rattle.lk_run.proofs.RwFast.{at_once}
+use Rattle.lk_lock.specs.Standing.{EntersLock, EntersOnce, FreesLock, HasBeenIn, HasTurnedIn, IsAsBefore, IsHolding, IsOfKind, IsReady, LeavesLock, StaysOut, TakesLock, TurnsLock, holds_of}
 use Rattle.lk_lock.specs.Turns.{FreesBy, HasLocked, HasUnlocked}
 use Rattle.lk_domain.proofs.Holds.{dropped}
 use Rattle.lk_lock.proofs.Marks.{turned_out}
@@ -133,16 +137,39 @@ module _ (d : Domain) (old : Cpu) (was : IsReady d old) (awake : halts d.plan.mo
       }
 
   -- it made a turn
-  pub turns : (l : ℕ) (new : Cpu) → KeepsRest old new → Turns d l old new → TurnsLock d l old new
-  turns l new rest has =
+
+  been_in : (v : Verb) (m : Manner) (c : Pc) (l : ℕ) (inside new : Calls)
+      → HasTaken (terms_of d.plan) old.number v l m (calls_of old) inside → inside.taken ≡ (calls_of old).taken + 1
+      → HasLeft c l inside new → HasBeenIn (terms_of d.plan) old.number v l m c (calls_of old) new
+  been_in v m c l inside new taken once left =
       record {
-        ready = after new rest (has.freed.frames ∙ has.taken.frames) has.home;
+        inside = inside;
+        entered = come_in (terms_of d.plan) old.number old.number v l m inside.last (calls_of old) inside refl
+            (at_once (terms_of d.plan) old.number v l m (calls_of old) inside taken)
+            (once ∙ ap (λ (n : ℕ). (calls_of old).taken + n) (alone (length inside.last)));
+        left = left;
+      }
+    where
+      alone : (k : ℕ) → 1 ≡ 1 + (k - k)
+      alone k = omega arith
+
+  turned_in : (m : Manner) (l : ℕ) (new : Cpu) → Turns d m l old new
+      → HasTurnedIn m (terms_of d.plan) old.number l (calls_of old) (calls_of new)
+  turned_in Spins l new has =
+      record {
+        inside = has.inside;
+        taken = has_locked l Lock has.inside has.taken has.once;
+        freed = has_unlocked l has.inside (calls_of new) has.freed;
+      }
+  turned_in Reads l new has = been_in Read Reads Z1 l has.inside (calls_of new) has.taken has.once has.freed
+  turned_in Writes l new has = been_in Write Writes Z2 l has.inside (calls_of new) has.taken has.once has.freed
+
+  pub turns : (m : Manner) (l : ℕ) (new : Cpu) → KeepsRest old new → Turns d m l old new → TurnsLock d m l old new
+  turns m l new rest has =
+      record {
+        ready = after new rest (freed_frames m l has.inside (calls_of new) has.freed ∙ has.taken.frames) has.home;
         before = record { same = rest.same; holds = has.holds };
-        turned = record {
-          inside = has.inside;
-          taken = has_locked l Lock has.inside has.taken has.once;
-          freed = has_unlocked l has.inside (calls_of new) has.freed;
-        };
+        turned = turned_in m l new has;
       }
 
   -- what it is as a whole: a spinlock is freed

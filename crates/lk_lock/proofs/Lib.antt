@@ -1,6 +1,7 @@
 pub mod Marks
 pub mod Steps
 pub mod AwakeSteps
+pub mod LateSteps
 pub mod HaltingSteps
 pub mod Laid
 pub mod Mades

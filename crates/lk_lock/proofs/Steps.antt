@@ -14,7 +14,8 @@ use Rattle.lk_domain.specs.declared.cpu.Cpu.{Cpu}
 use Rattle.lk_domain.specs.declared.domain.Domain.{Domain}
 use Rattle.lk_domain.specs.declared.view.View.{View}
 use Rattle.lk_pvdomain.specs.PvCalls.{IsResting}
-use Rattle.lk_run.specs.Entering.{HasEntered, HasLeft}
+use Rattle.lk_domain.specs.Turns.{HasLeft}
+use Rattle.lk_run.specs.Entering.{HasEntered}
 use Rattle.lk_rows.specs.declared.parts.Pc.{Pc}
 use Rattle.lk_lock.specs.Standing.{HasBeenIn, HasComeIn, IsAsBefore, IsHolding, IsInside, IsReady, holds_of, home_calls}
 use Rattle.lk_lock.specs.Turns.{HasLocked}

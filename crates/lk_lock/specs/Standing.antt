@@ -1,5 +1,5 @@
 -- How a processor stands that takes locks with values.
-use Rattle.std.specs.Prelude.{◌≡◌, ◌≢◌, ℕ, ◌+◌, ◌*◌, ◌<◌, Bool, true, false, List, [], ◌∷◌, Some, None}
+use Rattle.std.specs.Prelude.{◌≡◌, ℕ, ◌+◌, ◌*◌, ◌<◌, Bool, true, false, List, [], ◌∷◌, Some, None}
 use Rattle.std.specs.Prelude.{length, slice_get, slice_index_or}
 use Rattle.atomic_table.specs.Seated.{TableId}
 use Rattle.atomic_table.specs.declared.shared.Seat.{Seat}
@@ -9,20 +9,21 @@ use Rattle.lk_names.specs.declared.names.Kind.{Kind}
 use Rattle.lk_names.specs.declared.names.Kind.TheVariants.{Rw}
 use Rattle.lk_law.specs.Agree.{halts}
 use Rattle.lk_rows.specs.declared.setup.Verb.{Verb}
-use Rattle.lk_rows.specs.declared.setup.Verb.TheVariants.{Lock, TryWrite}
+use Rattle.lk_rows.specs.declared.setup.Verb.TheVariants.{Lock, Read, TryWrite, Write}
 use Rattle.lk_rows.specs.declared.parts.Pc.{Pc}
 use Rattle.lk_rows.specs.declared.parts.Pc.TheVariants.{Z1, Z2}
 use Rattle.lk_domain.specs.Calls.{Terms, Mark, Hold, hold, Calls, holds_in, lock_name, terms_of}
 use Rattle.lk_domain.specs.Paths.{HasMissed, HasTaken}
 use Rattle.lk_domain.specs.Plans.{cpus_of, locks_of, kind_at}
-use Rattle.lk_domain.specs.Seats.{IsIn, IsSame, KeepsRest, Made, calls_of, ledger_of, view_of}
+use Rattle.lk_domain.specs.Seats.{IsIn, IsSame, KeepsRest, calls_of, ledger_of, view_of}
+use Rattle.lk_domain.specs.Turns.{HasLeft, MadeIn, is_let}
 use Rattle.lk_domain.specs.Values.{IsClear, bringing, cell_of, outs_of}
 use Rattle.lk_domain.specs.Views.{newcomer}
 use Rattle.lk_domain.specs.declared.cpu.Cpu.{Cpu}
 use Rattle.lk_domain.specs.declared.domain.Domain.{Domain}
 use Rattle.lk_domain.specs.declared.plan.Plan.{Plan}
 use Rattle.lk_pvdomain.specs.PvCalls.{IsResting}
-use Rattle.lk_run.specs.Entering.{HasEntered, HasLeft}
+use Rattle.lk_run.specs.Entering.{HasEntered}
 use Rattle.lk_lock.specs.Turns.{HasLocked, HasPassed, HasTurned, HasUnlocked}
 
 -- the locks that a processor holds
@@ -95,13 +96,14 @@ pub record IsInside (l : ℕ) (m : Manner) (before now : Cpu) : Type 0 where
   pub fresh : holds_in (holds_of before) l ≡ false
   pub apart : IsClear (view_of before).who.plan l (outs_of (view_of before))
 
--- The processor, which was ready, waits for the spinlock: the row F1 of its call of `lock` met this word.
-pub record WaitsSince (domain : Domain) (l met : ℕ) (old now : Cpu) : Type 0 where
+-- The processor, which was ready, waits for the lock: the first row of the call that takes it in this manner met
+-- this word.
+pub record WaitsSince (domain : Domain) (m : Manner) (l met : ℕ) (old now : Cpu) : Type 0 where
   pub ready : IsReady domain old
   pub free : holds_in (holds_of old) l ≡ false
   pub rest : KeepsRest old now
-  pub other : met ≢ 0
-  pub made : Made Lock l old met now
+  pub other : is_let m met ≡ false
+  pub made : MadeIn m l old met now
 
 -- A call v has taken the spinlock, by a path of its rows, and no other.
 pub record TakesLock (domain : Domain) (v : Verb) (l : ℕ) (old new : Cpu) : Type 0 where
@@ -120,12 +122,6 @@ pub record FreesLock (domain : Domain) (l : ℕ) (old new : Cpu) : Type 0 where
   pub ready : IsReady domain new
   pub before : (before : Cpu) → IsHolding l Spins before old → IsAsBefore before new
   pub freed : HasUnlocked (terms_of domain.plan) old.number l (calls_of old) (calls_of new)
-
--- The processor has made a turn: it took the spinlock and freed it, and is ready again.
-pub record TurnsLock (domain : Domain) (l : ℕ) (old new : Cpu) : Type 0 where
-  pub ready : IsReady domain new
-  pub before : IsAsBefore old new
-  pub turned : HasTurned (terms_of domain.plan) old.number Lock l (calls_of old) (calls_of new)
 
 -- what the calls of the processor are as soon as the value of the lock, which is out, is home
 abbrev pub home_calls : ℕ → Cpu → Calls
@@ -188,6 +184,30 @@ pub record LeavesLock (domain : Domain) (c : Pc) (l : ℕ) (m : Manner) (old new
   pub ready : IsReady domain new
   pub before : (before : Cpu) → IsHolding l m before old → IsAsBefore before new
   pub left : HasLeft c l (calls_of old) (calls_of new)
+
+-- By the manner in which a turn holds its lock: the lock was taken, by a call that waits until it has it, and no
+-- other was but the wait lock that such a call has taken; it was freed, which had been taken last; and both.
+
+abbrev pub ComesIn : Domain → Manner → ℕ → Cpu → Cpu → Type 0
+ComesIn domain Spins l old new = TakesLock domain Lock l old new
+ComesIn domain Reads l old new = EntersLock domain Read l Reads old new
+ComesIn domain Writes l old new = EntersLock domain Write l Writes old new
+
+abbrev pub GoesOut : Domain → Manner → ℕ → Cpu → Cpu → Type 0
+GoesOut domain Spins l old new = FreesLock domain l old new
+GoesOut domain Reads l old new = LeavesLock domain Z1 l Reads old new
+GoesOut domain Writes l old new = LeavesLock domain Z2 l Writes old new
+
+abbrev pub HasTurnedIn : Manner → Terms → ℕ → ℕ → Calls → Calls → Type 0
+HasTurnedIn Spins t p l old new = HasTurned t p Lock l old new
+HasTurnedIn Reads t p l old new = HasRead t p Read l old new
+HasTurnedIn Writes t p l old new = HasWritten t p Write l old new
+
+-- The processor has made a turn: it took the lock in this manner and freed it, and is ready again.
+pub record TurnsLock (domain : Domain) (m : Manner) (l : ℕ) (old new : Cpu) : Type 0 where
+  pub ready : IsReady domain new
+  pub before : IsAsBefore old new
+  pub turned : HasTurnedIn m (terms_of domain.plan) old.number l (calls_of old) (calls_of new)
 
 -- the seat has opened the cell of this name, and has its value
 pub record HasOpened {T : Type 0} (cell : TableId) (place : Seat T Bool) : Type 0 where

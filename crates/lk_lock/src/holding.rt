@@ -5,12 +5,12 @@ ghost use Rattle.lk_names.specs.declared.names.Kind.TheVariants.{Spin};
 ghost use Rattle.lk_domain.specs.Calls.{holds_in};
 ghost use Rattle.lk_domain.specs.declared.cpu.Cpu.{Cpu};
 ghost use Rattle.lk_law.specs.Agree.{halts};
-ghost use Rattle.lk_lock.specs.Standing.{FreesLock, IsHolding, IsOfKind, IsReady, MissesLock, TakesLock, WaitsSince, holds_of};
+ghost use Rattle.lk_lock.specs.Standing.{FreesLock, IsHolding, IsOfKind, IsReady, MissesLock, TakesLock, holds_of};
 ghost use Rattle.lk_rows.specs.declared.setup.Verb.TheVariants.{Lock, Try};
 
 use lk_domain::{Cpu, Domain, LockId};
 use lk_pvdomain::halting;
-use lk_run::{Busy, NoIrq, lock, lock_slowpath, try_lock, unlock};
+use lk_run::{NoIrq, lock, try_lock, unlock};
 use lk_word::HELD;
 use std::sync::Wait;
 
@@ -42,20 +42,6 @@ pub(crate) fn take<R: Wait>(cpu: &mut Cpu, rt: &R, domain: &Domain, id: LockId)
     } else {
         lock(cpu, rt, domain, id, &mut NoIrq);
     }
-}
-
-// Takes the lock for which the processor waits, where no waiter halts. The work of a call that finds the
-// lock free is short, and this is out of its way.
-#[cold]
-#[inline(never)]
-pub(crate) fn take_late<R: Wait>(cpu: &mut Cpu, rt: &R, domain: &Domain, busy: Busy)
-    requires awake { halts domain.now.plan.mode ≡ false }
-    requires lock { IsOfKind domain.now.plan Spin busy.lock.index }
-    requires waits { (old : Cpu) × WaitsSince domain.now busy.lock.index busy.met old cpu.old }
-    ensures { (old : Cpu) → WaitsSince domain.now busy.lock.index busy.met old cpu.old
-        → TakesLock domain.now Lock busy.lock.index old cpu.new }
-{
-    lock_slowpath(cpu, rt, domain, busy, &mut NoIrq);
 }
 
 // Takes the lock if it is free.

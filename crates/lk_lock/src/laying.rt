@@ -2,7 +2,7 @@
 // and then for one processor after the other those of its copies.
 ghost use Rattle.std.specs.Prelude.{◌≡◌, ◌+◌, ◌≤◌, ◌++◌, IfOk, length, slice_get};
 ghost use Rattle.lk_domain.specs.declared.plan.TheConstants.{MOST_CPUS, MOST_LOCKS};
-ghost use Rattle.lk_lock.specs.Cells.{AllShut, all_behind, behind, firsts, laid};
+ghost use Rattle.lk_lock.specs.Cells.{all_behind, behind, firsts, laid};
 
 use lk_cell::Key;
 use lk_names::{List, Memory};

@@ -23,6 +23,7 @@ mod reading;
 mod seat;
 mod shared;
 mod showing;
+mod turning;
 mod working;
 mod writing;
 

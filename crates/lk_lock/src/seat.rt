@@ -3,7 +3,6 @@ ghost use Rattle.std.specs.Prelude.{◌≡◌, IfSome, MatchOption, false};
 ghost use Rattle.std.specs.Fn.{FnOnceReturnsAtMut};
 ghost use Rattle.lk_names.specs.declared.holder.Manner.TheVariants.{Spins};
 ghost use Rattle.lk_names.specs.declared.names.Kind.TheVariants.{Spin as spinning, Rw as shared};
-ghost use Rattle.lk_cell.specs.Latched.{IsKey};
 ghost use Rattle.lk_domain.specs.Calls.{holds_in, terms_of};
 ghost use Rattle.lk_domain.specs.Paths.{HasMissed};
 ghost use Rattle.lk_domain.specs.Seats.{calls_of};
@@ -14,10 +13,11 @@ ghost use Rattle.lk_rows.specs.declared.setup.Verb.TheVariants.{Lock, Try, TryWr
 
 use crate::holding::{free, free_halting, free_now, take_halting, try_take};
 use crate::locks::{Rw, Spin};
-use crate::working::{work_late, work_under};
-use crate::writing::{enter, leave, try_enter};
-use lk_cell::Key;
-use lk_domain::{Cpu, Domain, LockId, turn};
+use crate::turning::{Aim, Place, turn_at};
+use crate::working::work_under;
+use crate::writing::{leave, try_enter};
+use lk_domain::{Cpu, Domain, LockId};
+use lk_names::Manner;
 use std::sync::Wait;
 
 /// The right of a thread to take the locks of a domain.
@@ -146,21 +146,11 @@ impl<'a, R: Wait> Seat<'a, R> {
             free_halting(self.cpu, self.rt, self.domain, id);
             return done;
         }
-        let turned = turn(
-            self.cpu,
-            self.domain,
-            id,
-            |key: &mut Key| -> U
-                requires key { IsKey cell.now.table.shared.table_id key.old }
-                requires callable { W.IsAlwaysCallable work }
-                ensures key { IsKey cell.entry.now.table.shared.table_id key.new }
-                ensures done { (x : T) × (y : T) × FnOnceReturnsAtMut W.FnOnce work x result y }
-            { cell.with(key, work) },
-        );
-        match turned {
-            Ok(done) => done,
-            Err(waiting) => work_late(self.cpu, self.rt, self.domain, id, waiting),
-        }
+        let aim = Aim {
+            lock: id,
+            manner: Manner::Spins,
+        };
+        turn_at(self.cpu, self.rt, self.domain, Place { aim, cell }, work)
     }
 
     /// The same as `try_with` in each family. It does not wait for the lock; to free a paravirtual one it
@@ -203,9 +193,11 @@ impl<'a, R: Wait> Seat<'a, R> {
             rw.now.id.index (calls_of self.old.cpu.now) (calls_of self.new.cpu.now) }
         ensures done { (x : T) × (y : T) × FnOnceReturnsAtMut W.FnOnce work x result y }
     {
-        enter(self.cpu, self.rt, self.domain, rw.id);
-        let done = work_under(self.cpu, self.domain, rw.id, &rw.cell, work);
-        leave(self.cpu, self.domain, rw.id);
-        done
+        let aim = Aim {
+            lock: rw.id,
+            manner: Manner::Writes,
+        };
+        let cell = &rw.cell;
+        turn_at(self.cpu, self.rt, self.domain, Place { aim, cell }, work)
     }
 }

@@ -1,5 +1,5 @@
 // A value under a reader-writer lock that its readers share.
-ghost use Rattle.std.specs.Prelude.{◌≡◌, ◌+◌, ◌<◌, ◌≤◌, IfOk, length, false};
+ghost use Rattle.std.specs.Prelude.{◌≡◌, ◌+◌, ◌<◌, IfOk, length, false};
 ghost use Rattle.std.specs.Fn.{FnOnceReturnsAt, FnOnceReturnsAtMut};
 ghost use Rattle.lk_domain.specs.Calls.{holds_in, terms_of};
 ghost use Rattle.lk_domain.specs.Seats.{calls_of};
@@ -11,13 +11,13 @@ ghost use Rattle.lk_lock.specs.Standing.{HasRead, HasWritten, IsAsBefore, IsShar
 ghost use Rattle.lk_rows.specs.declared.setup.Verb.TheVariants.{Read, Write};
 
 use crate::locks::Locks;
-use crate::reading::{come_in, go_out};
 use crate::seat::Seat;
-use crate::working::{set_copies, work_on_copy, work_on_own};
+use crate::turning::{Aim, Place, turn_at};
+use crate::working::{copy_of, set_copies, work_on_own};
 use crate::writing::{enter, leave};
 use lk_cell::{Any, Key, KeyCell};
 use lk_domain::LockId;
-use lk_names::{Kind, List, Memory};
+use lk_names::{Kind, List, Manner, Memory};
 use std::alloc::Global;
 use std::sync::Wait;
 
@@ -105,20 +105,21 @@ impl<'a, R: Wait> Seat<'a, R> {
             shared.now.id.index (calls_of self.old.cpu.now) (calls_of self.new.cpu.now) }
         ensures done { (x : T) × FnOnceReturnsAt W.FnOnce work x result }
     {
-        let number = self.cpu.number();
-        come_in(self.cpu, self.rt, self.domain, shared.id);
-        let done = work_on_copy(
+        let aim = Aim {
+            lock: shared.id,
+            manner: Manner::Reads,
+        };
+        let cell = copy_of(self.domain, shared, self.cpu.number());
+        turn_at(
             self.cpu,
+            self.rt,
             self.domain,
-            shared,
-            number,
+            Place { aim, cell },
             |value: &mut T| -> U
                 requires callable { W.IsAlwaysCallable work }
                 ensures read { FnOnceReturnsAt W.FnOnce work value.old result }
             { work(value) },
-        );
-        go_out(self.cpu, self.domain, shared.id);
-        done
+        )
     }
 
     /// Takes the lock as its writer, works on the value, sets the copy of each processor to what the

@@ -1,24 +1,18 @@
 // Work on the value of a lock that is held. The value stays where it lies.
-ghost use Rattle.std.specs.Prelude.{◌≡◌, ◌+◌, ◌<◌, Some, true, false};
+ghost use Rattle.std.specs.Prelude.{◌≡◌, ◌+◌, ◌<◌, Some};
 ghost use Rattle.std.specs.Fn.{FnOnceReturnsAtMut};
 ghost use Rattle.lk_names.specs.declared.holder.Manner.TheVariants.{Writes};
-ghost use Rattle.lk_names.specs.declared.names.Kind.TheVariants.{Spin};
 ghost use Rattle.lk_cell.specs.Latched.{IsKey};
-ghost use Rattle.lk_cell.specs.Work.{HasWorked, KeepsFit};
-ghost use Rattle.lk_law.specs.Agree.{halts};
 ghost use Rattle.lk_domain.specs.Plans.{cpus_of, locks_of};
 ghost use Rattle.lk_domain.specs.Seats.{IsStill, view_of};
-ghost use Rattle.lk_domain.specs.Values.{HasCell, IsHomeWith, IsKeyOf, MayCopy, cell_of, copy_at};
+ghost use Rattle.lk_domain.specs.Values.{IsHomeWith, MayCopy, cell_of, copy_at};
 ghost use Rattle.lk_domain.specs.declared.cpu.Cpu.{Cpu};
 ghost use Rattle.lk_lock.specs.Cells.{names_of};
-ghost use Rattle.lk_lock.specs.Standing.{IsHolding, IsOfKind, IsReady, IsSharedUnder, TurnsLock, WaitsSince, holds_of};
+ghost use Rattle.lk_lock.specs.Standing.{IsHolding, IsReady, IsSharedUnder, holds_of};
 
-use crate::holding::{free_now, take_late};
 use crate::shared::Shared;
 use lk_cell::{Any, Key, KeyCell};
-use lk_domain::{Cpu, Domain, LockId, MOST_CPUS, Waiting, with_copy, with_key};
-use lk_run::Busy;
-use std::sync::Wait;
+use lk_domain::{Cpu, Domain, LockId, MOST_CPUS, with_copy, with_key};
 
 // Works once on the value of a lock, which is held alone.
 #[inline(always)]
@@ -49,33 +43,6 @@ pub(crate) fn work_under<T, U, W: FnOnce(&mut T) -> U>(
             ensures done { (x : T) × (y : T) × FnOnceReturnsAtMut W.FnOnce work x result y }
         { cell.with(key, work) },
     )
-}
-
-// Does the work of a turn that found its lock taken: the processor waits for the lock, works once under
-// it, and frees it. It stays out of the turns that find their lock free.
-#[cold]
-#[inline(never)]
-pub(crate) fn work_late<R: Wait, U, W: FnOnce(&mut Key) -> U>(
-    cpu: &mut Cpu,
-    rt: &R,
-    domain: &Domain,
-    id: LockId,
-    turn: Waiting<W>,
-) -> U
-    requires awake { halts domain.now.plan.mode ≡ false }
-    requires lock { IsOfKind domain.now.plan Spin id.index }
-    requires valued { HasCell domain.now.plan id.index }
-    requires waits { (old : Cpu) × WaitsSince domain.now id.index turn.met old cpu.old }
-    requires work { KeepsFit W.FnOnce (IsKeyOf domain.now.plan id.index) turn.work }
-    ensures turned { (old : Cpu) → WaitsSince domain.now id.index turn.met old cpu.old
-        → TurnsLock domain.now id.index old cpu.new }
-    ensures done { HasWorked W.FnOnce (IsKeyOf domain.now.plan id.index) turn.work result }
-{
-    let Waiting { met, work } = turn;
-    take_late(cpu, rt, domain, Busy { lock: id, met });
-    let done = with_key(cpu, domain, id, work);
-    free_now(cpu, domain, id);
-    done
 }
 
 // Works once on the own value of a lock with copies, and tells what it is then.
@@ -110,7 +77,11 @@ pub(crate) fn work_on_own<T: Copy + Drop, U, W: FnOnce(&mut T) -> U>(
 }
 
 // The cell of the copy for the processor of this number.
-fn copy_of<'a, T>(domain: &Domain, shared: &'a Shared<T>, number: u32) -> &'a KeyCell<T, Any>
+pub(crate) fn copy_of<'a, T>(
+    domain: &Domain,
+    shared: &'a Shared<T>,
+    number: u32,
+) -> &'a KeyCell<T, Any>
     requires lock { IsSharedUnder domain.now.plan shared.now.id.index
         (names_of shared.now.cells.items) }
     requires number { number < cpus_of domain.now.plan }
@@ -122,7 +93,7 @@ fn copy_of<'a, T>(domain: &Domain, shared: &'a Shared<T>, number: u32) -> &'a Ke
 
 // Works once on the copy of a value for the processor of this number. The lock is held alone, or by the
 // reader with this number.
-pub(crate) fn work_on_copy<T, U, W: FnOnce(&mut T) -> U>(
+fn work_on_copy<T, U, W: FnOnce(&mut T) -> U>(
     cpu: &mut Cpu,
     domain: &Domain,
     shared: &Shared<T>,

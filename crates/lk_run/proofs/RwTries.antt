@@ -1,26 +1,21 @@
 -- What a step of a processor does to a try of a reader or a writer, and to a release of one.
-use Rattle.std.proofs.Common.{◌≡◌, ℕ, ◌+◌, ◌<◌, [], ◌∷◌, ◌++◌, length, Some, None, Bool, true, false, refl, sym, ap, ◌∙◌, subst}
-use Rattle.std.specs.Prelude.{if◌then◌else◌}
+use Rattle.std.proofs.Common.{◌≡◌, ℕ, ◌+◌, [], ◌∷◌, ◌++◌, None, Bool, true, false, refl, sym, ap, ◌∙◌, subst}
 use Rattle.lk_names.specs.declared.holder.Manner.{Manner}
-use Rattle.lk_names.specs.declared.holder.Manner.TheVariants.{Reads, Writes}
-use Rattle.lk_names.specs.declared.names.Kind.TheVariants.{Rw}
 use Rattle.lk_names.specs.declared.names.LockName.{LockName}
 use Rattle.lk_word.specs.declared.rw_word.RwFields.{RwFields}
 use Rattle.lk_rows.specs.Moves.{first_place}
 use Rattle.lk_rows.specs.declared.parts.Frame.{Frame}
 use Rattle.lk_rows.specs.declared.parts.Pc.{Pc}
-use Rattle.lk_rows.specs.declared.parts.Pc.TheVariants.{Y2, Y5, Z1, Z2}
+use Rattle.lk_rows.specs.declared.parts.Pc.TheVariants.{Y2, Y5}
 use Rattle.lk_rows.specs.declared.setup.Verb.{Verb}
-use Rattle.lk_rows.specs.declared.setup.Verb.TheVariants.{RUnlock, WUnlock, TryRead, TryWrite}
+use Rattle.lk_rows.specs.declared.setup.Verb.TheVariants.{TryRead, TryWrite}
 use Rattle.lk_rows.specs.TopRow.{target}
 use Rattle.lk_law.specs.Leads.{Met, Shared, held_lock}
-use Rattle.lk_law.specs.Agree.{halts}
 use Rattle.lk_law.specs.Sound.{takes_wait}
-use Rattle.lk_domain.specs.Calls.{terms_of, sight_of, Terms, Calls, begin, begun, acting, is_on, waits_in, way_in, lock_name, row_of}
+use Rattle.lk_domain.specs.Calls.{terms_of, sight_of, Terms, Calls, begin, waits_in, lock_name, row_of}
 use Rattle.lk_domain.specs.Calls.{Takes, Frees}
 use Rattle.lk_domain.specs.Ledgers.{Ledger, turned}
 use Rattle.lk_domain.specs.Paths.{Any, row_grip}
-use Rattle.lk_domain.specs.Plans.{kind_at}
 use Rattle.lk_domain.specs.Plays.{rowed, turned_of}
 use Rattle.lk_domain.specs.RwPlays.{ActsFor, SharedBy}
 use Rattle.lk_domain.specs.RwRows.{joins_at, seizes_at}
@@ -30,12 +25,12 @@ use Rattle.lk_domain.specs.Views.{own_number}
 use Rattle.lk_domain.specs.Waits.{WaitsAt, Moves, Gains, Misses}
 use Rattle.lk_domain.specs.declared.cpu.Cpu.{Cpu}
 use Rattle.lk_domain.specs.declared.domain.Domain.{Domain}
-use Rattle.lk_domain.specs.declared.plan.Plan.{Plan}
-use Rattle.lk_domain.proofs.Freed.{not_unlocking, released}
 use Rattle.lk_domain.proofs.Seating.{apart_of}
 use Rattle.lk_domain.proofs.Standing as path
 use Rattle.lk_domain.proofs.Turned.{is_taking}
-use Rattle.lk_run.specs.Entering.{HasLeft, Leaves}
+use Rattle.lk_domain.proofs.rw.Released as released
+use Rattle.lk_domain.proofs.rw.Released.{Lets, reader, writer}
+use Rattle.lk_run.specs.Entering.{Leaves}
 use Rattle.lk_run.proofs.RwRows.{TakesBy, Fails}
 use Rattle.lk_run.proofs.RwSteps as rw
 use Rattle.lk_run.proofs.Stepped as step
@@ -116,90 +111,27 @@ module _ (d : Domain) (v : Verb) (l : ℕ) (a b : Cpu) (rest : KeepsRest a b) (o
 
 -- a release, which begins and ends in one step
 
--- of a reader or of the writer
-pub data Lets : Verb → Pc → Manner → Type 0 where
-  reader : Lets RUnlock Z1 Reads
-  writer : Lets WUnlock Z2 Writes
-
--- where no processor halts
-asleep : {k j : Plan} → k ≡ j → halts j.mode ≡ false → halts k.mode ≡ true → ⊥
-asleep same awake on = let z : true ≡ false = sym on ∙ (ap (λ (q : Plan). halts q.mode) same ∙ awake) in cc z
-
-pub acts_leaving : {v : Verb} {c : Pc} {m : Manner} → Lets v c m → (kind : Pc → Bool) → kind c ≡ true → (d : Domain) (l : ℕ) (a : Cpu)
-    → IsOf a d → length (calls_of a).frames < 6 → way_in (calls_of a).holds l ≡ Some m → kind_at d.plan l ≡ Rw
-    → ActsFor kind (view_of a) v l
-acts_leaving reader kind is d l a of few held rw =
-    record {
-      inside = false;
-      acts = record {
-        row = Z1;
-        is = is;
-        stands = record {
-          frame = begun (view_of a).who.plan.mode (length (calls_of a).frames) RUnlock l;
-          trail = [];
-          rest = (calls_of a).frames;
-          is = ap (λ b. (if b then calls_of a else begin (view_of a).who.plan.mode (calls_of a) RUnlock l).frames) (not_unlocking RUnlock refl (calls_of a).frames l (apart_of a d of));
-          place = refl;
-          lock = refl;
-        };
-        begins = λ _. (few, held, ap (λ (j : Plan). kind_at j l) of.plan ∙ rw, λ on. absurd (asleep of.plan of.awake on));
-      };
-    }
-acts_leaving writer kind is d l a of few held rw =
-    record {
-      inside = false;
-      acts = record {
-        row = Z2;
-        is = is;
-        stands = record {
-          frame = begun (view_of a).who.plan.mode (length (calls_of a).frames) WUnlock l;
-          trail = [];
-          rest = (calls_of a).frames;
-          is = ap (λ b. (if b then calls_of a else begin (view_of a).who.plan.mode (calls_of a) WUnlock l).frames) (not_unlocking WUnlock refl (calls_of a).frames l (apart_of a d of));
-          place = refl;
-          lock = refl;
-        };
-        begins = λ _. (few, held, ap (λ (j : Plan). kind_at j l) of.plan ∙ rw, λ on. absurd (asleep of.plan of.awake on));
-      };
-    }
-
--- what the one row does
-abbrev After : Terms → ℕ → Calls → Verb → ℕ → RwFields → Calls
-After terms p old v l y = row_of terms p (begin terms.mode old v l) (Shared y)
-
-ends : {v : Verb} {c : Pc} {m : Manner} → Lets v c m → (terms : Terms) (p : ℕ) (old : Calls) (l : ℕ) (y : RwFields)
-    → HasLeft c l old (After terms p old v l y)
-ends reader terms p old l y =
-    record { word = y; trail = refl; frames = refl; holds = refl; none = released (length old.frames) l old.holds; taken = refl }
-ends writer terms p old l y =
-    record { word = y; trail = refl; frames = refl; holds = refl; none = released (length old.frames) l old.holds; taken = refl }
-
 closes : {v : Verb} {c : Pc} {m : Manner} → Lets v c m → (terms : Terms) (p : ℕ) (old : Calls) (l : ℕ) (y : RwFields) (g : Ledger)
-    → turned_of terms p (begin terms.mode old v l) (Shared y) g ≡ turned g (lock_name l) Frees (After terms p old v l y).last
+    → turned_of terms p (begin terms.mode old v l) (Shared y) g
+    ≡ turned g (lock_name l) Frees (row_of terms p (begin terms.mode old v l) (Shared y)).last
 closes reader terms p old l y g = refl
 closes writer terms p old l y g = refl
 
 pub leaves : {v : Verb} {c : Pc} {m : Manner} → Lets v c m → (d : Domain) (l : ℕ) (a b : Cpu) {met : ℕ}
     → IsOf a d → SharedBy v l a.seat.me met b.seat.me → Leaves c l a b
-leaves {v} {c} lets d l a b of made =
+leaves lets d l a b {met} of made =
     let terms = terms_of (view_of a).who.plan in
-    let mode = terms.mode in
     let p = own_number (view_of a).who.number in
-    let acts : acting mode (calls_of a) v l ≡ begin mode (calls_of a) v l =
-    ap (λ t. if t then calls_of a else begin mode (calls_of a) v l) (unlocks lets l) in
-    let is : calls_of b ≡ After terms p (calls_of a) v l made.found =
-    (λ i. (made.seat i).0.calls) ∙ ap (λ z. row_of terms p z (Shared made.found)) acts in
+    let calm = apart_of a d of in
     record {
-      left = subst (λ (z : Calls). HasLeft c l (calls_of a) z) (sym is) (ends lets terms p (calls_of a) l made.found);
+      left = released.left lets l met a.seat.me b.seat.me made calm;
       ledger = (λ i. (made.seat i).0.ledger)
-          ∙ (ap (λ (z : Calls). turned_of terms p z (Shared made.found) (ledger_of a)) acts
+          ∙ (ap (λ (z : Calls). turned_of terms p z (Shared made.found) (ledger_of a))
+          (released.acts lets l met a.seat.me b.seat.me made calm)
           ∙ (closes lets terms p (calls_of a) l made.found (ledger_of a)
-          ∙ ap (λ (z : Calls). turned (ledger_of a) (lock_name l) Frees z.last) (sym is)));
+          ∙ ap (λ (z : Calls). turned (ledger_of a) (lock_name l) Frees z.last)
+          (sym (released.rowed lets l met a.seat.me b.seat.me made calm))));
     }
-  where
-    unlocks : {v : Verb} {c : Pc} {m : Manner} → Lets v c m → (l : ℕ) → is_on (calls_of a).frames v l ≡ false
-    unlocks reader l = not_unlocking RUnlock refl (calls_of a).frames l (apart_of a d of)
-    unlocks writer l = not_unlocking WUnlock refl (calls_of a).frames l (apart_of a d of)
 
 -- what is asked of a try that goes on
 pub acts_try : (d : Domain) (v : Verb) (l : ℕ) (c : Pc) (a : Cpu) (old : Calls) → WaitsAt d v l c old a

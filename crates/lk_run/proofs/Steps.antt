@@ -58,7 +58,7 @@ module _ (d : Domain) (v : Verb) (l : ℕ) (old : Calls) (a b : Cpu) (rest : Kee
         ledger = m.ledger;
       }
 
-  pub took : Took d.plan a.number v l old (view_of a) (view_of b) → Gains d v l Spins old a b
+  pub took : Took d.plan a.number v l Spins old (view_of a) (view_of b) → Gains d v l Spins old a b
   took m =
       record {
         taken = subst (λ (p : ℕ). HasTaken (terms_of d.plan) p v l Spins old (calls_of b)) (sym rest.same.number) m.taken;
@@ -72,19 +72,6 @@ module _ (d : Domain) (v : Verb) (l : ℕ) (old : Calls) (a b : Cpu) (rest : Kee
         missed = subst (λ (p : ℕ). HasMissed (terms_of d.plan) p v l old (calls_of b)) (sym rest.same.number) m.missed;
         ledger = m.ledger;
       }
-
--- the step behind one that moved, as one from where that began
-module _ {d : Domain} {v : Verb} {l : ℕ} {c : Pc} {old : Calls} {a b e : Cpu} (move : Moves d v l c old a b) where
-  pub then_gains : (m : Manner) → Gains d v l m old b e → Gains d v l m old a e
-  then_gains m gain =
-      record {
-        taken = gain.taken;
-        once = gain.once;
-        ledger = gain.ledger ∙ ap (λ g. turned g (lock_name l) (Takes m) (calls_of e).last) move.ledger;
-      }
-
-  pub then_misses : Misses d v l old b e → Misses d v l old a e
-  then_misses miss = record { missed = miss.missed; ledger = miss.ledger ∙ move.ledger }
 
 -- what nested calls leave of the ledger
 

@@ -1,18 +1,17 @@
 -- What a call has done that took a reader-writer lock: where its rows took the lock, and how they
 -- went on from there.
-use Rattle.std.specs.Prelude.{◌≡◌, ◌⊎◌, ℕ, ◌<◌, false, List, [], ◌∷◌, ◌++◌, length}
+use Rattle.std.specs.Prelude.{◌≡◌, ◌⊎◌, ℕ, ◌<◌, List, [], ◌∷◌, ◌++◌, length}
 use Rattle.lk_names.specs.declared.holder.Manner.{Manner}
 use Rattle.lk_rows.specs.declared.parts.Frame.{Frame}
 use Rattle.lk_rows.specs.declared.parts.Pc.{Pc}
 use Rattle.lk_rows.specs.declared.parts.Pc.TheVariants.{U1}
 use Rattle.lk_rows.specs.declared.setup.Verb.{Verb}
-use Rattle.lk_law.specs.Leads.{Met, Shared}
-use Rattle.lk_word.specs.declared.rw_word.RwFields.{RwFields}
+use Rattle.lk_law.specs.Leads.{Met}
 use Rattle.lk_domain.specs.Calls.{Terms, Mark, mark, hold, Calls, Grip, Takes, Frees, begun, lock_name}
-use Rattle.lk_domain.specs.Calls.{free_of, moved_to, holds_in}
 use Rattle.lk_domain.specs.Ledgers.{turned}
 use Rattle.lk_domain.specs.Paths.{PathTo, Path}
 use Rattle.lk_domain.specs.Seats.{calls_of, ledger_of}
+use Rattle.lk_domain.specs.Turns.{HasLeft}
 use Rattle.lk_domain.specs.declared.cpu.Cpu.{Cpu}
 
 -- the rows of the trail lead from the frame a to a row that ends the call
@@ -35,17 +34,6 @@ pub record HasEntered (t : Terms) (p : ℕ) (v : Verb) (l : ℕ) (manner : Manne
   pub frames : new.frames ≡ old.frames
   pub holds : new.holds ≡ hold (length old.frames) (lock_name l) manner new.taken ∷ old.holds
   pub taken : old.taken < new.taken
-
--- it has freed the lock, by one row
-pub record HasLeft (c : Pc) (l : ℕ) (old new : Calls) : Type 0 where
-  pub word : RwFields
-  pub trail : new.last ≡ mark c (Shared word) 0 ∷ []
-  pub frames : new.frames ≡ old.frames
-  pub holds : new.holds
-      ≡ free_of (length old.frames) (lock_name l)
-      (moved_to (length old.frames) (lock_name l) old.holds)
-  pub none : holds_in new.holds l ≡ false
-  pub taken : new.taken ≡ old.taken
 
 -- a step by which a reader or the writer frees the lock
 pub record Leaves (c : Pc) (l : ℕ) (before after : Cpu) : Type 0 where

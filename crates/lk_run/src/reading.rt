@@ -15,7 +15,7 @@ ghost use Rattle.lk_names.specs.declared.holder.Manner.TheVariants.{Reads};
 ghost use Rattle.lk_names.specs.declared.names.Kind.TheVariants.{Rw};
 ghost use Rattle.lk_rows.specs.declared.parts.Pc.TheVariants.{R2, R3, R4, R5, Y2, Y3, Z1};
 ghost use Rattle.lk_rows.specs.declared.setup.Verb.TheVariants.{Read, TryRead};
-ghost use Rattle.lk_domain.specs.Calls.{Calls, lock_name, way_in};
+ghost use Rattle.lk_domain.specs.Calls.{Calls, way_in};
 ghost use Rattle.lk_domain.specs.Plans.{locks_of, kind_at};
 ghost use Rattle.lk_domain.specs.Seats.{IsOf, KeepsRest, calls_of};
 ghost use Rattle.lk_domain.specs.Values.{out_in};
@@ -80,10 +80,17 @@ pub(crate) fn first(cpu: &mut Cpu, domain: &Domain, lock: LockName) -> bool
     lets_readers_in(steps::join_first(cpu, domain, Verb::Read, lock))
 }
 
-// From the place to which the first row led that found no way in: turns, and a poll after each.
+/// Goes on with a call of `read_lock` from the place to which its first row led, which found no way in, until
+/// the processor holds the lock (`queued_read_lock_slowpath`): turns, and a poll after each.
 #[cold]
 #[inline(never)]
-fn read_slowpath<I: Irq, R: Wait>(cpu: &mut Cpu, rt: &R, domain: &Domain, lock: LockId, irq: &mut I)
+pub fn read_slowpath<I: Irq, R: Wait>(
+    cpu: &mut Cpu,
+    rt: &R,
+    domain: &Domain,
+    lock: LockId,
+    irq: &mut I,
+)
     requires domain { IsOf cpu.old domain.now }
     requires lock { lock.index < locks_of domain.now.plan }
     requires begun { Begun (Began domain.now lock.index) I.nests cpu.old (I.polls irq.old) }

@@ -85,10 +85,11 @@ pub(crate) fn first(cpu: &mut Cpu, domain: &Domain, lock: LockName) -> bool
     steps::seize_first(cpu, domain, Verb::Write, lock) == 0
 }
 
-// From F1: the first row met a word that was not (0, 0, 0). Turns, and a poll after each.
+/// Goes on with a call of `write_lock` whose first row met a word that was not (0, 0, 0), from F1, until the
+/// processor holds the lock (`queued_write_lock_slowpath`): turns, and a poll after each.
 #[cold]
 #[inline(never)]
-fn write_slowpath<I: Irq, R: Wait>(
+pub fn write_slowpath<I: Irq, R: Wait>(
     cpu: &mut Cpu,
     rt: &R,
     domain: &Domain,

@@ -1,68 +1,122 @@
--- What the releases of readers and writers do to what their processor keeps.
-use Rattle.std.proofs.Common.{◌≡◌, ◌≢◌, ℕ, List, length, true, false, refl, ap, ◌∙◌}
+-- The releases of readers and writers: what they ask, and what they do to what their processor keeps.
+use Rattle.std.proofs.Common.{◌≡◌, ◌≢◌, ℕ, ◌<◌, List, [], length, Some, Bool, true, false, refl, sym, ap, ◌∙◌, subst}
 use Rattle.std.specs.Prelude.{if◌then◌else◌}
 use Rattle.atomic_table.specs.Table.{Me}
+use Rattle.lk_names.specs.declared.holder.Manner.{Manner}
+use Rattle.lk_names.specs.declared.holder.Manner.TheVariants.{Reads, Writes}
+use Rattle.lk_names.specs.declared.names.Kind.TheVariants.{Rw}
 use Rattle.lk_word.specs.declared.rw_word.RwFields.{RwFields}
+use Rattle.lk_rows.specs.declared.parts.Pc.{Pc}
+use Rattle.lk_rows.specs.declared.parts.Pc.TheVariants.{Z1, Z2}
 use Rattle.lk_rows.specs.declared.setup.Verb.{Verb}
 use Rattle.lk_rows.specs.declared.setup.Verb.TheVariants.{RUnlock, WUnlock}
-use Rattle.lk_rows.specs.Programs.{is_release as is_unlocking}
+use Rattle.lk_law.specs.Agree.{halts}
 use Rattle.lk_law.specs.Leads.{Shared}
-use Rattle.lk_domain.specs.Calls.{terms_of, Hold, Calls, are_calls, begin, row_of}
-use Rattle.lk_domain.specs.declared.plan.Plan.{Plan}
-use Rattle.lk_domain.specs.Calls.{moved_to, free_of, lock_name, holds_in}
+use Rattle.lk_domain.specs.Calls.{Terms, terms_of, Hold, Calls, acting, are_calls, begin, begun, is_on, row_of}
+use Rattle.lk_domain.specs.Calls.{moved_to, lock_name, holds_in, way_in}
 use Rattle.lk_domain.specs.Keeps.{Slot}
-use Rattle.lk_domain.specs.RwPlays.{SharedBy}
+use Rattle.lk_domain.specs.Plans.{kind_at}
+use Rattle.lk_domain.specs.RwPlays.{ActsFor, SharedBy}
+use Rattle.lk_domain.specs.Turns.{HasLeft}
 use Rattle.lk_domain.specs.Views.{own_number}
+use Rattle.lk_domain.specs.declared.plan.Plan.{Plan}
 use Rattle.lk_domain.specs.declared.view.View.{View}
 use Rattle.lk_domain.proofs.Freed.{not_unlocking, released, freed_else, moved_else}
+use Rattle.lk_domain.proofs.Ways.{IsSeat}
 
--- a release is one step
-pub record Ends (old new : Calls) (l : ℕ) : Type 0 where
-  pub frames : new.frames ≡ old.frames
-  pub holds : new.holds ≡ free_of (length old.frames) (lock_name l) (moved_to (length old.frames) (lock_name l) old.holds)
-  pub taken : new.taken ≡ old.taken
+-- the operation, its one row, and the manner in which the lock was held
+pub data Lets : Verb → Pc → Manner → Type 0 where
+  reader : Lets RUnlock Z1 Reads
+  writer : Lets WUnlock Z2 Writes
 
--- the operation is one of these two
-pub data Unshares : Verb → Type 0 where
-  reader : Unshares RUnlock
-  writer : Unshares WUnlock
+-- no call that waits is one
+pub begins : {v : Verb} {c : Pc} {m : Manner} → Lets v c m → (old : Calls) (l : ℕ) → are_calls old.frames ≡ true
+    → is_on old.frames v l ≡ false
+begins reader old l calm = not_unlocking RUnlock refl old.frames l calm
+begins writer old l calm = not_unlocking WUnlock refl old.frames l calm
 
-pub unlocks : (v : Verb) → Unshares v → is_unlocking v ≡ true
-unlocks v reader = refl
-unlocks v writer = refl
+-- what it asks
 
-ends : (k : Plan) (p : ℕ) (old : Calls) (v : Verb) → Unshares v → (l : ℕ) (x : RwFields)
-    → Ends old (row_of (terms_of k) p (begin k.mode old v l) (Shared x)) l
-ends k p old v reader l x = record { frames = refl; holds = refl; taken = refl }
-ends k p old v writer l x = record { frames = refl; holds = refl; taken = refl }
+module _ (k : Plan) (p l : ℕ) (w : View) (seat : IsSeat k p w) (calm : are_calls w.calls.frames ≡ true)
+    (few : length w.calls.frames < 6) (fits : kind_at k l ≡ Rw) where
+  -- no processor halts
+  asleep : halts w.who.plan.mode ≡ true → ⊥
+  asleep on = let z : true ≡ false = sym on ∙ (ap (λ (q : Plan). halts q.mode) seat.plan ∙ seat.awake) in cc z
 
-module _ (v : Verb) (is : Unshares v) (l met : ℕ) (m n : Me Slot View) (made : SharedBy v l m met n)
-    (calm : are_calls m.0.calls.frames ≡ true) where
+  new_one : {v : Verb} {c : Pc} {m : Manner} → Lets v c m
+      → (acting w.who.plan.mode w.calls v l).frames ≡ (begin w.who.plan.mode w.calls v l).frames
+  new_one {v} lets =
+      ap (λ b. (if b then w.calls else begin w.who.plan.mode w.calls v l).frames) (begins lets w.calls l calm)
+
+  pub acts_leaving : {v : Verb} {c : Pc} {m : Manner} → Lets v c m → (kind : Pc → Bool) → kind c ≡ true
+      → way_in w.calls.holds l ≡ Some m → ActsFor kind w v l
+  acts_leaving reader kind is held =
+      record {
+        inside = false;
+        acts = record {
+          row = Z1;
+          is = is;
+          stands = record {
+            frame = begun w.who.plan.mode (length w.calls.frames) RUnlock l;
+            trail = [];
+            rest = w.calls.frames;
+            is = new_one reader;
+            place = refl;
+            lock = refl;
+          };
+          begins = λ _. (few, held, ap (λ (j : Plan). kind_at j l) seat.plan ∙ fits, λ on. absurd (asleep on));
+        };
+      }
+  acts_leaving writer kind is held =
+      record {
+        inside = false;
+        acts = record {
+          row = Z2;
+          is = is;
+          stands = record {
+            frame = begun w.who.plan.mode (length w.calls.frames) WUnlock l;
+            trail = [];
+            rest = w.calls.frames;
+            is = new_one writer;
+            place = refl;
+            lock = refl;
+          };
+          begins = λ _. (few, held, ap (λ (j : Plan). kind_at j l) seat.plan ∙ fits, λ on. absurd (asleep on));
+        };
+      }
+
+-- it is one step
+ends : {v : Verb} {c : Pc} {m : Manner} → Lets v c m → (t : Terms) (p : ℕ) (old : Calls) (l : ℕ) (x : RwFields)
+    → HasLeft c l old (row_of t p (begin t.mode old v l) (Shared x))
+ends reader t p old l x =
+    record { word = x; trail = refl; frames = refl; holds = refl; none = released (length old.frames) l old.holds; taken = refl }
+ends writer t p old l x =
+    record { word = x; trail = refl; frames = refl; holds = refl; none = released (length old.frames) l old.holds; taken = refl }
+
+module _ {v : Verb} {c : Pc} {manner : Manner} (lets : Lets v c manner) (l met : ℕ) (m n : Me Slot View)
+    (made : SharedBy v l m met n) (calm : are_calls m.0.calls.frames ≡ true) where
   abbrev old : Calls
   old = m.0.calls
 
-  abbrev c : ℕ
-  c = length old.frames
+  abbrev plan : Plan
+  plan = m.0.who.plan
 
-  pub ended : Ends old n.0.calls l
-  ended =
-      let plan = m.0.who.plan in
-      let p = own_number m.0.who.number in
-      let now : n.0.calls ≡ row_of (terms_of plan) p (begin plan.mode old v l) (Shared made.found) =
+  -- the call begins, and makes its row
+  pub acts : acting plan.mode old v l ≡ begin plan.mode old v l
+  acts = ap (λ b. if b then old else begin plan.mode old v l) (begins lets old l calm)
+
+  pub rowed : n.0.calls ≡ row_of (terms_of plan) (own_number m.0.who.number) (begin plan.mode old v l) (Shared made.found)
+  rowed =
       ap (λ (x : Me Slot View). x.0.calls) made.seat
-      ∙ ap (λ b. row_of (terms_of plan) p (if b then old else begin plan.mode old v l) (Shared made.found))
-      (not_unlocking v (unlocks v is) old.frames l calm) in
-      let e = ends plan p old v is l made.found in
-      record {
-        frames = ap (λ (x : Calls). x.frames) now ∙ e.frames;
-        holds = ap (λ (x : Calls). x.holds) now ∙ e.holds;
-        taken = ap (λ (x : Calls). x.taken) now ∙ e.taken;
-      }
+      ∙ ap (λ (z : Calls). row_of (terms_of plan) (own_number m.0.who.number) z (Shared made.found)) acts
 
-  pub none : holds_in n.0.calls.holds l ≡ false
-  none = ap (λ (hs : List Hold). holds_in hs l) ended.holds ∙ released c l old.holds
+  pub left : HasLeft c l old n.0.calls
+  left =
+      subst (λ (z : Calls). HasLeft c l old z) (sym rowed)
+      (ends lets (terms_of plan) (own_number m.0.who.number) old l made.found)
 
   pub other_holds : (x : ℕ) → x ≢ l → holds_in n.0.calls.holds x ≡ holds_in old.holds x
   other_holds x ne =
-      ap (λ (hs : List Hold). holds_in hs x) ended.holds
-      ∙ (freed_else c l x (moved_to c (lock_name l) old.holds) ne ∙ moved_else c l x old.holds)
+      ap (λ (hs : List Hold). holds_in hs x) left.holds
+      ∙ (freed_else (length old.frames) l x (moved_to (length old.frames) (lock_name l) old.holds) ne
+      ∙ moved_else (length old.frames) l x old.holds)

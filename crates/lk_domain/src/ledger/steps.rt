@@ -1,6 +1,6 @@
 //! The steps of a seat on the words of the ledger, and the end of a domain. The calls of all lock
 //! families are made of these.
-ghost use Rattle.std.specs.Prelude.{◌≡◌, ◌<◌, ◌≤◌, ◌+◌, ℕ, Option, Some, None, [], length, take, drop};
+ghost use Rattle.std.specs.Prelude.{◌≡◌, ◌<◌, ◌≤◌, ◌+◌, ℕ, Option, Some, None, [], take, drop};
 ghost use Rattle.std.specs.Slots.{IsFull, slots_filled, slots_items, slots_len};
 ghost use Rattle.lk_names.specs.Journal.{balances_after};
 ghost use Rattle.lk_domain.specs.Ends.{AreTaken, IsEnd};

@@ -1,18 +1,17 @@
 // The steps of a processor on the word of a reader-writer lock, and what it then notes of its calls.
-ghost use Rattle.std.specs.Prelude.{◌≡◌, ◌<◌, ◌==◌, ◌%◌, true, false, None, length};
+ghost use Rattle.std.specs.Prelude.{◌≡◌, ◌<◌, ◌==◌, true, false, None, length};
 ghost use Rattle.lk_rows.specs.declared.setup.Verb.TheVariants.{Read, TryRead, RUnlock, Write};
 ghost use Rattle.lk_domain.specs.Calls.{lock_name, waits_in};
 ghost use Rattle.lk_domain.specs.Ledgers.{is_first};
 ghost use Rattle.lk_domain.specs.Plans.{locks_of};
-ghost use Rattle.lk_domain.specs.RwPlays.{ActsFor, SharedBy};
-ghost use Rattle.lk_domain.specs.RwRows.{watches_by, joins_by, quits_by, seizes_by, awaits_by};
+ghost use Rattle.lk_domain.specs.RwPlays.{ActsFor};
+ghost use Rattle.lk_domain.specs.RwRows.{quits_by, awaits_by};
 ghost use Rattle.lk_domain.specs.RwRows.{follows_by, leaves_by, watches_at, joins_at, seizes_at};
-ghost use Rattle.lk_domain.specs.RwRows.{watches_on, watch_takes, joins_on, join_takes, quits_on};
+ghost use Rattle.lk_domain.specs.RwRows.{watches_on, watch_takes, joins_on, join_takes};
 ghost use Rattle.lk_domain.specs.RwRows.{seizes_on};
 ghost use Rattle.lk_domain.specs.RwSeats.{MadeShared};
 ghost use Rattle.lk_domain.specs.Seats.{IsOf, KeepsRest, calls_of, ledger_of, view_of};
 ghost use Rattle.lk_domain.specs.Values.{out_in};
-ghost use Rattle.lk_domain.specs.Views.{IsNumbered};
 
 use super::rw_moves::{RwUse, act_by};
 use crate::cpu::Cpu;

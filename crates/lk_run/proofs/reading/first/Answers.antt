@@ -1,5 +1,4 @@
 use Rattle.std.proofs.Common.{ap, sym, refl, length, subst, ◌∙◌}
-use Rattle.lk_names.specs.declared.holder.Manner.TheVariants.{Reads}
 use Rattle.lk_names.specs.declared.names.LockName.{LockName}
 use Rattle.lk_rows.specs.declared.parts.Pc.TheVariants.{R1}
 use Rattle.lk_rows.specs.declared.setup.Verb.TheVariants.{Read}
@@ -8,8 +7,7 @@ use Rattle.lk_domain.specs.Paths.{Any}
 use Rattle.lk_domain.specs.RwRows.{joins_at}
 use Rattle.lk_domain.specs.Seats.{calls_of}
 use Rattle.lk_run.specs.Phases.{Waits, biased, starting}
-use Rattle.lk_run.proofs.RwPlaces.{is_open_by, is_shut_by}
-use Rattle.lk_run.proofs.RwRows as row
+use Rattle.lk_run.proofs.RwFast as fast
 use Rattle.lk_run.proofs.RwSteps as rw
 use Rattle.lk_run.proofs.reading.first.Goals as goal
 
@@ -27,14 +25,14 @@ returns-clause-begins c =
     let a = c.args.cpu.now in
     let b = c.join_first.new.cpu in
     let l = c.args.lock.index in
-    let made = c.join_first.ensures.step.by in
+    let step = c.join_first.ensures in
     record {
       entered = λ is nests told.
-          rw.first_enters d Read l a b c.join_first.ensures.rest c.requires.domain refl made c.requires.may.fresh nests told Reads
-          (λ f. row.reader_enters d.plan.mode b.number f made.found (is_open_by c.join_first.result made.found made.word (sym c.lets_readers_in.ensures ∙ is)));
+          fast.reader_enters d l a b step.rest c.requires.domain c.requires.may.fresh c.join_first.result nests told step.step.by
+          (sym c.lets_readers_in.ensures ∙ is);
       waits = λ is nests told.
           subst (λ (n : LockName). Waits d Read n (biased (length (calls_of a).frames)) Any (starting a nests told) b told)
           (λ i. record { index = l; wait = sym c.requires.plain i })
-          (rw.first_goes d Read l a b c.join_first.ensures.rest c.requires.domain refl made c.requires.may.fresh nests told biased (rw.biased_else (length (calls_of a).frames))
-          (λ f. row.reader_biases d.plan.mode b.number f made.found (is_shut_by c.join_first.result made.found made.word (sym c.lets_readers_in.ensures ∙ is))));
+          (fast.reader_waits d l a b step.rest c.requires.domain c.requires.may.fresh c.join_first.result nests told step.step.by
+          (sym c.lets_readers_in.ensures ∙ is));
     }

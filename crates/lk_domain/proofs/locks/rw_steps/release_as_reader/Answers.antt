@@ -18,12 +18,12 @@ invariant_of-cpu c =
     let n = c.act_by-met.new.seat.me in
     let met = c.act_by-met.result in
     let made = c.act_by-met.ensures.step in
-    let e = released.ended RUnlock reader l met m n made apart in
+    let e = released.left reader l met m n made apart in
     record {
       numbered = stepped.numbered RUnlock l met m n made apart noted.few cpu.numbered;
       noted = λ _. stepped.noted RUnlock l met m n made apart noted.few
           (c.free.ensures (locks_of m.0.who.plan) m.0.calls n.0.calls noted (low_of cpu c.args.domain.now c.args.lock c.requires.domain c.requires.lock) e.frames
-          (released.none RUnlock reader l met m n made apart) (released.other_holds RUnlock reader l met m n made apart));
+          e.none (released.other_holds reader l met m n made apart));
       apart = λ _. ap are_calls e.frames ∙ apart;
       carried = stepped.carried RUnlock l met m n made apart noted.few cpu.carried;
     }

@@ -23,12 +23,12 @@ invariant_of-cpu c =
     let n = c.act_by-met.new.seat.me in
     let met = c.act_by-met.result in
     let made = c.act_by-met.ensures.step in
-    let e = released.ended WUnlock writer l met m n made apart in
+    let e = released.left writer l met m n made apart in
     record {
       numbered = stepped.numbered WUnlock l met m n made apart noted.few cpu.numbered;
       noted = λ _. stepped.noted WUnlock l met m n made apart noted.few
           (c.free.ensures (locks_of m.0.who.plan) m.0.calls n.0.calls noted (low_of cpu c.args.domain.now c.args.lock.index c.requires.domain c.requires.lock) e.frames
-          (released.none WUnlock writer l met m n made apart) (released.other_holds WUnlock writer l met m n made apart));
+          e.none (released.other_holds writer l met m n made apart));
       apart = λ _. ap are_calls e.frames ∙ apart;
       carried = stepped.carried WUnlock l met m n made apart noted.few cpu.carried;
     }

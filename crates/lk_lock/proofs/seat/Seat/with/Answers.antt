@@ -21,15 +21,3 @@ returns-then-halts-clause-before g c =
     c.free_halting.ensures.before old
     (still_holding c.args.spin.now.id.index Spins old c.take_halting.new.cpu c.take_halting.ensures.holding c.work_under-done.new.cpu
     c.work_under-done.ensures.still)
-
-pub work_late-requires-clause-waits : goal.work_late-requires-clause-waits
-work_late-requires-clause-waits g c = (
-  c.args.self.now.cpu.now,
-  record {
-    ready = c.args.self.now.ready;
-    free = c.requires.free;
-    rest = c.in-Err.ensures.rest;
-    other = c.in-Err.ensures.waits.0;
-    made = c.in-Err.ensures.waits.2;
-  },
-)

@@ -1,34 +1,7 @@
-use Rattle.std.proofs.Common.{refl}
-use Rattle.lk_names.specs.declared.holder.Manner.TheVariants.{Writes}
-use Rattle.lk_domain.specs.Seats.{calls_of}
-use Rattle.lk_domain.specs.Calls.{terms_of}
-use Rattle.lk_rows.specs.declared.parts.Pc.TheVariants.{Z2}
-use Rattle.lk_rows.specs.declared.setup.Verb.TheVariants.{Write}
-use Rattle.lk_lock.proofs.Steps.{at_home, been_in, still_holding}
+use Rattle.lk_lock.proofs.AwakeSteps.{awake_rw}
 use Rattle.lk_lock.proofs.seat.Seat.write.Goals as goal
 
-pub work_under-done-requires-clause-held : goal.work_under-done-requires-clause-held
-work_under-done-requires-clause-held g c =
-    at_home c.args.rw.now.id.index Writes c.args.self.now.cpu.now c.enter.new.cpu c.enter.ensures.holding refl
-
-pub leave-requires-clause-holding : goal.leave-requires-clause-holding
-leave-requires-clause-holding g c =
-    let old = c.args.self.now.cpu.now in (
-      old,
-      still_holding c.args.rw.now.id.index Writes old c.enter.new.cpu c.enter.ensures.holding c.work_under-done.new.cpu
-          c.work_under-done.ensures.still,
-    )
-
-pub returns-clause-before : goal.returns-clause-before
-returns-clause-before g c =
-    let old = c.args.self.now.cpu.now in
-    c.leave.ensures.before old
-    (still_holding c.args.rw.now.id.index Writes old c.enter.new.cpu c.enter.ensures.holding c.work_under-done.new.cpu
-    c.work_under-done.ensures.still)
-
-pub returns-clause-path : goal.returns-clause-path
-returns-clause-path g c =
-    let old = c.args.self.now.cpu.now in
-    been_in (terms_of c.args.self.now.domain.now.plan) old.number Write c.args.rw.now.id.index Writes Z2 (calls_of old)
-    c.enter.new.cpu c.work_under-done.new.cpu (calls_of c.leave.new.cpu) c.work_under-done.ensures.still c.enter.ensures.path
-    c.leave.ensures.left
+pub turn_at-requires-clause-awake : goal.turn_at-requires-clause-awake
+turn_at-requires-clause-awake g c =
+    awake_rw c.args.self.now.domain.now c.args.rw.now.id.index
+    (record { low = c.requires.lock.low; kind_is = c.requires.lock.kind_is })
