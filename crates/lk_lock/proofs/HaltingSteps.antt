@@ -1,5 +1,5 @@
 -- The same where the family halts, by what the calls of `lk_pvdomain` leave.
-use Rattle.std.proofs.Common.{◌≡◌, ℕ, ◌<◌, List, ◌∷◌, Bool, Some, true, false, refl, sym, ap, ◌∙◌, subst, arith}
+use Rattle.std.proofs.Common.{◌≡◌, ℕ, ◌<◌, List, ◌∷◌, Bool, true, false, refl, sym, ap, ◌∙◌, subst, arith}
 use Rattle.atomic_table.specs.declared.shared.Seat.{Seat}
 use Rattle.lk_names.specs.declared.holder.Manner.TheVariants.{Spins}
 use Rattle.lk_law.specs.Agree.{halts}
@@ -7,7 +7,6 @@ use Rattle.lk_rows.specs.declared.setup.Verb.{Verb}
 use Rattle.lk_rows.specs.declared.setup.Verb.TheVariants.{Unlock}
 use Rattle.lk_domain.specs.Calls.{Frees, Hold, hold, holds_begun, holds_in, lock_name, terms_of}
 use Rattle.lk_domain.specs.Plans.{locks_of}
-use Rattle.lk_domain.specs.Plays.{carried_of}
 use Rattle.lk_domain.specs.Seats.{IsSame, calls_of}
 use Rattle.lk_domain.specs.Values.{Slot}
 use Rattle.lk_domain.specs.Who.{Who}
@@ -19,6 +18,7 @@ use Rattle.lk_domain.proofs.seats.Places.{carried_same}
 use Rattle.lk_pvdomain.specs.PvCalls.{MayFree, without}
 use Rattle.lk_pvdomain.specs.PvPaths.{Ended, Rests, Took, first_node, first_of}
 use Rattle.lk_pvdomain.proofs.ways.Frees.{IsLet, freed_none, freed_others, is_let}
+use Rattle.lk_pvdomain.proofs.ways.Kept.{IsKept, IsSeated}
 use Rattle.lk_lock.specs.Standing.{FreesLock, IsHolding, IsReady, TakesLock, holds_of}
 use Rattle.lk_lock.specs.Turns.{FreesBy, HasLocked}
 use Rattle.lk_lock.proofs.Marks.{left_without}
@@ -58,19 +58,20 @@ module _ (d : Domain) (old : Cpu) (was : IsReady d old) (on : halts d.plan.mode 
         value = none_out l Spins before old has;
       }
 
-  -- where a call is over the seat is still that of its processor
-  module _ (seat : Seat Slot View) (let_it : IsLet old.seat seat) where
-    pub numbered : seat.me.0.who.number ≡ Some old.number
-    numbered = ap (λ (w : Who). w.number) let_it.who ∙ old.numbered
+  -- where a call stands the seat is still that of its processor
+  pub seated : (seat : Seat Slot View) → IsKept old.seat.me seat.me → IsSeated old seat
+  seated seat k =
+      record {
+        numbered = ap (λ (w : Who). w.number) k.who ∙ old.numbered;
+        awake = λ off.
+            let no : true ≡ false = sym on ∙ (sym (ap (λ (w : Who). halts w.plan.mode) k.who ∙ ap (λ (p : Plan). halts p.mode) was.domain_is.plan) ∙ off) in
+            cc no;
+        carried = k.slots ∙ (old.carried ∙ carried_same old.seat.me.0 seat.me.0 k.who k.out);
+      }
 
-    pub carried : seat.me.1 ≡ carried_of seat.me.0
-    carried = let_it.slots ∙ (old.carried ∙ carried_same old.seat.me.0 seat.me.0 let_it.who let_it.out)
-
-    -- it keeps no notes
-    pub unnoted : halts seat.me.0.who.plan.mode ≡ false → ⊥
-    unnoted off =
-        let no : true ≡ false = sym on ∙ (sym (ap (λ (w : Who). halts w.plan.mode) let_it.who ∙ ap (λ (k : Plan). halts k.mode) was.domain_is.plan) ∙ off) in
-        cc no
+  -- and where it is over
+  pub let_seated : (seat : Seat Slot View) → IsLet old.seat seat → IsSeated old seat
+  let_seated seat let_it = seated seat (record { who = let_it.who; slots = let_it.slots; out = let_it.out })
 
   -- what it is as a whole
   module _ (mid : Cpu) (number : mid.number ≡ old.number) where

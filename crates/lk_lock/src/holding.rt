@@ -14,7 +14,7 @@ use lk_run::{NoIrq, lock, try_lock, unlock};
 use lk_word::HELD;
 use std::sync::Wait;
 
-// Takes the lock, whose waiters halt.
+// Takes the lock, whose waiters halt. Which processor it is only who contends has to know.
 #[inline(always)]
 pub(crate) fn take_halting<R: Wait>(cpu: &mut Cpu, rt: &R, domain: &Domain, id: LockId)
     requires ready { IsReady domain.now cpu.old }
@@ -23,8 +23,8 @@ pub(crate) fn take_halting<R: Wait>(cpu: &mut Cpu, rt: &R, domain: &Domain, id: 
     requires free { holds_in (holds_of cpu.old) id.index ≡ false }
     ensures { TakesLock domain.now Lock id.index cpu.old cpu.new }
 {
-    let number = cpu.number();
     if !halting::take(&mut cpu.seat, domain, id.index) {
+        let number = cpu.number();
         halting::contend(&mut cpu.seat, rt, domain, id.index, number);
     }
 }

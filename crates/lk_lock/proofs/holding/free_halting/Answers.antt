@@ -2,7 +2,7 @@ use Rattle.std.proofs.Common.{refl}
 use Rattle.lk_rows.specs.declared.setup.Verb.TheVariants.{Unlock}
 use Rattle.lk_pvdomain.specs.PvPaths.{first_node, first_of}
 use Rattle.lk_pvdomain.proofs.ways.Frees.{is_let}
-use Rattle.lk_lock.proofs.HaltingSteps.{carried, may_free, numbered, pv_frees, rests, unnoted}
+use Rattle.lk_lock.proofs.HaltingSteps.{let_seated, may_free, pv_frees, rests}
 use Rattle.lk_lock.proofs.holding.free_halting.Goals as goal
 
 pub free-met-requires : goal.free-met-requires
@@ -37,13 +37,13 @@ invariant_of-cpu g c =
     let on = c.requires.on in
     let own = first_node old.number in
     let seat = c.release.new.seat in
-    let let_it = is_let old.seat seat
-    (c.release.ensures.freed own (first_of Unlock c.args.id.index old.seat) (c.free-met.ensures.tried own (rests d old was on))) in
+    let s = let_seated d old was on seat (is_let old.seat seat
+    (c.release.ensures.freed own (first_of Unlock c.args.id.index old.seat) (c.free-met.ensures.tried own (rests d old was on)))) in
     record {
-      numbered = numbered d old was on seat let_it;
-      noted = λ off. absurd (unnoted d old was on seat let_it off);
-      apart = λ off. absurd (unnoted d old was on seat let_it off);
-      carried = carried d old was on seat let_it;
+      numbered = s.numbered;
+      noted = λ off. absurd (s.awake off);
+      apart = λ off. absurd (s.awake off);
+      carried = s.carried;
     }
 
 pub returns-then-met-ne-HELD : goal.returns-then-met-ne-HELD
@@ -62,12 +62,13 @@ invariant_of-cpu-else-met-ne-HELD g c =
     let on = c.requires.on in
     let own = first_node old.number in
     let seat = c.free-met.new.seat in
-    let let_it = is_let old.seat seat (c.free-met.ensures.freed c.if-met-ne-HELD.false own (rests d old was on)) in
+    let s = let_seated d old was on seat
+    (is_let old.seat seat (c.free-met.ensures.freed c.if-met-ne-HELD.false own (rests d old was on))) in
     record {
-      numbered = numbered d old was on seat let_it;
-      noted = λ off. absurd (unnoted d old was on seat let_it off);
-      apart = λ off. absurd (unnoted d old was on seat let_it off);
-      carried = carried d old was on seat let_it;
+      numbered = s.numbered;
+      noted = λ off. absurd (s.awake off);
+      apart = λ off. absurd (s.awake off);
+      carried = s.carried;
     }
 
 pub returns-else-met-ne-HELD : goal.returns-else-met-ne-HELD
