@@ -18,7 +18,7 @@ use Rattle.lk_idle.proofs.Goes.{nodes_rested}
 use Rattle.lk_reach.specs.declared.key.Key.{Key}
 use Rattle.lk_reach.specs.Space.{AreFormed, Folds, Grows, HasForm, HaveForm, IsFoldOf, IsFormed, IsFront, IsNumberOf}
 use Rattle.lk_reach.specs.Space.{IsSameKind, Keeps, KeyKeeps, Rests, SameStates, SpaceValue}
-use Rattle.lk_reach.proofs.Kept.{front_at, front_self, keeps_one, one_value, set_other, set_same}
+use Rattle.lk_reach.proofs.Kept.{front_at, front_self, keeps_one, one_value}
 use Rattle.lk_reach.proofs.Likeness.{cpus_bared}
 
 -- what is formed stays so when there is more

@@ -23,6 +23,13 @@ const FEW_AHEAD: usize = 2_048;
 // How many at least, since it takes as long as a few of them until all threads have begun.
 const LEAST_AHEAD: usize = 128;
 
+// The machine leaves at least so many states by itself before helpers look.
+const LEAST_ALONE: usize = 1_024;
+
+// They look if at least one act of so many had to be made on these states. Where most are
+// remembered, one thread tries an act as quickly as it reads what a helper found of it.
+const ONE_OF: usize = 8;
+
 /// Who tries the acts.
 #[derive(Drop)]
 pub(crate) struct Crew<'a, R> {
@@ -40,6 +47,10 @@ pub(crate) struct Crew<'a, R> {
     /// How many acts were tried ahead last, and what of it was taken.
     tried: usize,
     taken: usize,
+    /// The state from which on the acts that the machine makes are counted, and how many it had made
+    /// there.
+    since: usize,
+    made: usize,
 }
 
 // How many states are tried ahead next, after so many of so many acts were found. A helper does not find
@@ -72,6 +83,8 @@ impl<'a, R: Threads + Sync> Crew<'a, R> {
             width: FEW_AHEAD,
             tried: 0,
             taken: 0,
+            since: 0,
+            made: 0,
         }
     }
 
@@ -88,8 +101,8 @@ impl<'a, R: Threads + Sync> Crew<'a, R> {
         !plan.folds && self.helpers.list.len() > 1
     }
 
-    /// Lets the helpers try the acts on this state and the next ones, if they have not done so, and
-    /// there are enough.
+    /// Lets the helpers try the acts on this state and the next ones, if they have not done so, there
+    /// are enough, and many acts had to be made on the last states that the machine left by itself.
     pub(crate) fn look_ahead(&mut self, space: &mut Space, plan: &Plan, state: usize)
         requires may { MayLook plan.now space.old self.old.machine.setup }
         requires helpers { AreHelpers plan.now self.old.machine.setup space.old
@@ -100,7 +113,14 @@ impl<'a, R: Threads + Sync> Crew<'a, R> {
         ensures machine { self.new.machine ≡ self.old.machine }
         ensures steps { self.new.steps ≡ self.old.steps }
     {
-        if state < self.ahead || !self.looks(plan) {
+        if state < self.since.saturating_add(LEAST_ALONE) || !self.looks(plan) {
+            return;
+        }
+        let left = state.saturating_sub(self.since);
+        let made = self.steps.count.saturating_sub(self.made);
+        self.since = state;
+        self.made = self.steps.count;
+        if made < left.saturating_mul(plan.acts().len()) / ONE_OF {
             return;
         }
         let width = fitting(self.width, self.tried, self.taken);
@@ -112,6 +132,7 @@ impl<'a, R: Threads + Sync> Crew<'a, R> {
         let rt = self.helpers.rt;
         space.begin_look(rt, self.helpers.list.len(), count);
         self.ahead = to;
+        self.since = to;
         self.at = 0;
         self.next = 0;
         self.width = width;
@@ -146,12 +167,6 @@ impl<'a, R: Threads + Sync> Crew<'a, R> {
         let helper = helper_at(&self.helpers.list, self.at)?;
         let finding = finding_at(&helper.findings, self.next)?;
         Some(finding)
-    }
-
-    /// Whether helpers tried the acts on a state.
-    #[inline]
-    pub(crate) fn has_tried(&self, state: usize) -> bool {
-        state < self.ahead
     }
 
     /// What a helper found of an act on a state, if it did. It is taken once, and in the order of the

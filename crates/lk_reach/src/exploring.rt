@@ -164,8 +164,7 @@ fn settle(space: &mut Space, then: &Then) -> Result<u32, Memory>
 
 // Where an act leads from the state that is left, and what it tells: as a helper found it, and else by
 // making it.
-#[inline(never)]
-fn lead_ahead<R: Threads + Sync>(
+fn lead<R: Threads + Sync>(
     space: &mut Space,
     crew: &mut Crew<'_, R>,
     plan: &Plan,
@@ -203,46 +202,6 @@ fn lead_ahead<R: Threads + Sync>(
             let found = visit(space, crew, plan, here, plan.act(number))?;
             Ok(found)
         }
-    }
-}
-
-// Where an act leads from the state that is left, and what it tells. What helpers found is looked at only
-// if they tried the acts on this state.
-fn lead<R: Threads + Sync>(
-    space: &mut Space,
-    crew: &mut Crew<'_, R>,
-    plan: &Plan,
-    here: &Here,
-    number: usize,
-) -> Result<(u32, Option<Event>), Memory>
-    requires few { length crew.old.machine.cpus ≤ 8 }
-    requires such { IsSuch crew.old.machine.setup crew.old.machine }
-    requires here { IsHere plan.now crew.old.machine.setup space.old here.now }
-    requires act { number < length plan.now.acts.items }
-    requires moves { OnlyMoves plan.now.extras crew.old.machine.setup plan.now.acts.items }
-    requires made { AreMade crew.old.machine.setup space.old crew.old.steps.made.items }
-    requires helpers { AreHelpers plan.now crew.old.machine.setup space.old
-        crew.old.helpers.list.items }
-    ensures noted { IfOk result (λ found. (s : MachineValue) (a : ActValue)
-        → slice_get plan.now.acts.items number ≡ Some a → Keeps space.old here.now.spot.state s
-        → IsReached plan.now crew.old.machine.setup s
-        → IsNoted plan.now crew.old.machine.setup space.old space.new here.now.spot.state
-        (after s a) found.0) }
-    ensures told { IfOk result (λ found. (s : MachineValue) (a : ActValue)
-        → slice_get plan.now.acts.items number ≡ Some a → Keeps space.old here.now.spot.state s
-        → IsReached plan.now crew.old.machine.setup s → found.1 ≡ (next s a).1) }
-    ensures such { OnOk result (IsSuch crew.old.machine.setup crew.new.machine) }
-    ensures made { OnOk result
-        (AreMade crew.old.machine.setup space.new crew.new.steps.made.items) }
-    ensures helpers { OnOk result (AreHelpers plan.now crew.old.machine.setup space.new
-        crew.new.helpers.list.items) }
-{
-    if crew.has_tried(here.spot.state) {
-        let found = lead_ahead(space, crew, plan, here, number)?;
-        Ok(found)
-    } else {
-        let found = visit(space, crew, plan, here, plan.act(number))?;
-        Ok(found)
     }
 }
 

@@ -53,8 +53,8 @@ fn made_on(spot: &Spot, led: &Led, cpu: u32, other: u32) -> Made
     }
 }
 
-/// Remembers a step on a state and where it led, if it is known whom it touched. There are so many
-/// states.
+/// Counts an act that was made on a state. Remembers where it led, if it is a step and it is known
+/// whom it touched. There are so many states.
 pub(crate) fn remember(
     steps: &mut Steps,
     spot: &Spot,
@@ -65,6 +65,7 @@ pub(crate) fn remember(
     requires { IfSome touched (λ f. (f.0 < 8) × (f.1 < 8)) }
     ensures { Remembers touched spot.now led.now steps.old.made.items steps.new.made.items }
 {
+    steps.count = steps.count.saturating_add(1);
     if let Some((cpu, other)) = touched {
         steps.remember(made_on(spot, led, cpu, other), states);
     }

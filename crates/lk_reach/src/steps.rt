@@ -52,6 +52,8 @@ pub(crate) struct Steps {
     pub made: Vec<Option<Made>>,
     /// For each part, whom a step touches there.
     others: Vec<u8>,
+    /// How many acts were made, whether they are remembered or not.
+    pub count: usize,
 }
 
 // A hash of what a step begins with.
@@ -146,6 +148,7 @@ impl Steps {
         Steps {
             made: Vec::new(alloc),
             others: Vec::new(alloc),
+            count: 0,
         }
     }
 

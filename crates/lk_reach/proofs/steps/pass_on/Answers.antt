@@ -1,4 +1,4 @@
-use Rattle.std.proofs.Common.{◌≡◌, ◌∙◌, Some, ap, inl, inr, sym}
+use Rattle.std.proofs.Common.{◌∙◌, Some, ap, inl, inr, sym}
 use Rattle.lk_reach.specs.declared.steps.Made.{Made}
 use Rattle.lk_reach.proofs.steps.pass_on.Goals as goal
 

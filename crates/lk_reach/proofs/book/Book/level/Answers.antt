@@ -1,4 +1,4 @@
-use Rattle.std.proofs.Common.{◌∙◌, ap, sym}
+use Rattle.std.proofs.Common.{◌∙◌, ap}
 use Rattle.std.specs.Prelude.{slice_get}
 use Rattle.lk_reach.specs.declared.origin.Origin.{Origin}
 use Rattle.lk_reach.proofs.Kept.{one_value}

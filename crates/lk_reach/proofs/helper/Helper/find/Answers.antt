@@ -1,7 +1,6 @@
 use Rattle.std.proofs.Common.{ℕ, ◌≡◌, Some, sym, subst}
 use Rattle.std.specs.Prelude.{slice_get}
 use Rattle.std.proofs.lemmas.Option.{slice_get_within}
-use Rattle.lk_rows.specs.Machine.{Machine}
 use Rattle.lk_reach.specs.Explored.{IsSuch}
 use Rattle.lk_reach.specs.Reach.{after}
 use Rattle.lk_reach.specs.Space.{Keeps}

@@ -1,4 +1,4 @@
-use Rattle.std.proofs.Common.{ℕ, ◌∙◌, List, ap, sym, subst}
+use Rattle.std.proofs.Common.{◌∙◌, List, sym, subst}
 use Rattle.std.specs.Prelude.{IfSome}
 use Rattle.lk_rows.specs.declared.setup.Setup.{Setup}
 use Rattle.lk_reach.specs.Explored.{IsSuch}
