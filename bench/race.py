@@ -39,11 +39,13 @@ middle, such luck is left; where other work runs beside it, the times are those 
 --against FILE  in place of these: PROGRAM beside FILE, another build of `lk_race`, such as that of the version before. On two and four
              threads N times eight runs of each, in turn, and each of the eight begins its stack 16 bytes further on: where a value lies
              in a line of the cache makes a tenth of a contended turn. On one thread each program is linked at each alignment, as above.
-             Printed are the least and the middle of PROGRAM, those of FILE, and the ratio of the middles. With --values, of values
+             Printed are the least and the middle of PROGRAM, those of FILE, and the ratio of the middles; and on more threads between
+             which two it lies in 95 of a hundred draws from the same runs. With --values, of values
 """
 import argparse
 import itertools
 import os
+import random
 import re
 import resource
 import shutil
@@ -57,6 +59,8 @@ TURNS = {1: 4000000, 2: 4000000, 4: 2000000}
 CROWDS = {1: 2000000, 2: 800000, 8: 800000}
 FEW_TURNS = {1: 400000, 2: 80000, 8: 64000}
 ALIGNED_TURNS = 400000
+AGAINST_TURNS = {2: 2000000, 4: 1000000}
+DRAWS = 2000
 PADS = range(16, 144, 16)
 PLACES = range(0, 128, 16)
 MODES = ["virt", "native", "cna", "pv"]
@@ -193,18 +197,30 @@ def race_alignments(kind, modes, programs, runs, works=WORKS):
             print(("%-24s" + "%9.1f" * 6 + "%9.2f") % ("%s, %s, %s" % (kind, name, mode), *figures, figures[1] / figures[4]), flush=True)
 
 
+def ratio_of(ours, theirs):
+    """The ratio of the middles."""
+    return statistics.median(ours) / statistics.median(theirs)
+
+
+def ratios_of(ours, theirs):
+    """Between which two the ratio of the middles lies in 95 of a hundred draws from the same runs."""
+    drawn = sorted(ratio_of(random.choices(ours, k=len(ours)), random.choices(theirs, k=len(theirs))) for _ in range(DRAWS))
+    return drawn[DRAWS // 40], drawn[-1 - DRAWS // 40]
+
+
 def race_places(kind, modes, programs, runs, works):
     """Races of two programs on two and on four threads, at each place of the stack, in turn; prints a line for each race."""
     for mode in [mode for mode in modes if (mode, kind) != ("pv", "rw")]:
-        for threads, (name, work) in itertools.product((2, 4), works):
+        for (threads, turns), (name, work) in itertools.product(AGAINST_TURNS.items(), works):
             times = {program: [] for program in programs}
-            for place in [*PLACES] * runs:
-                for program in programs:
-                    took, _used = turn([program, mode, kind], threads, ALIGNED_TURNS, work, place)
+            for number, place in enumerate([*PLACES] * runs):
+                for program in programs if number % 2 else reversed(programs):
+                    took, _used = turn([program, mode, kind], threads, turns, work, place)
                     times[program].append(took)
             figures = [figure for took in times.values() for figure in (min(took), statistics.median(took))]
             title = "%s, %s, %s, %d threads" % (kind, name, mode, threads)
-            print(("%-32s" + "%9.1f" * 4 + "%9.2f") % (title, *figures, figures[1] / figures[3]), flush=True)
+            ratios = (ratio_of(*times.values()), *ratios_of(*times.values()))
+            print(("%-32s" + "%9.1f" * 4 + "%9.2f" * 3) % (title, *figures, *ratios), flush=True)
 
 
 def race_against(args, modes, kinds, scratch):
@@ -215,7 +231,7 @@ def race_against(args, modes, kinds, scratch):
     print(("%-24s" + "%9s" * 7) % ("race of one thread", "least ns", "middle", "most", "against", "middle", "most", "ratio"))
     for kind in kinds:
         race_alignments(kind, modes, builds, args.runs, works)
-    print(("%-32s" + "%9s" * 5) % ("race", "least ns", "middle", "against", "middle", "ratio"))
+    print(("%-32s" + "%9s" * 7) % ("race", "least ns", "middle", "against", "middle", "ratio", "from", "to"))
     for kind in kinds:
         race_places(kind, modes, programs, args.runs, works)
 
