@@ -1,9 +1,10 @@
 /* library LOCK bare|work THREADS TURNS: THREADS threads take LOCK and free it TURNS times each. Under it lies nothing, or two numbers
- * that each turn raises by one. LOCK is virt, native or cna of the C library, or mutex, spin or mcs: those of POSIX threads, and the
+ * that each turn raises by one. LOCK is virt, native, cna or pv of the C library, or mutex, spin or mcs: those of POSIX threads, and the
  * queued lock of Concurrency Kit (built with -DWITH_CK). Writes "right", and to standard error the microseconds from the first thread's
- * start to the last one's end, as lk_race does. A waiter of the C library yields at each 64th look. bench/library.py compiles and runs this. */
+ * start to the last one's end, as lk_race does. A waiter of the C library yields at each 64th look, and in pv it sleeps when its 32,768
+ * turns are over. bench/library.py compiles and runs this. */
 #define _GNU_SOURCE
-#include "qlock.h"
+#include "qlock_sleep.h"
 #include <pthread.h>
 #include <sched.h>
 #include <stdio.h>
@@ -16,11 +17,13 @@
 static ck_spinlock_mcs_t mcs = CK_SPINLOCK_MCS_INITIALIZER;
 #endif
 
-enum { MOST = QLOCK_MOST_CPUS };
+/* The most processors; how often CNA hands off past one that stands aside, and how many turns a waiter of PV spins. */
+enum { MOST = QLOCK_MOST_CPUS, THRESHOLD = 16, SPINS = 32768 };
 
 static struct { char before[128]; long a, b; char behind[112]; } value;
 static struct { char before[128]; pthread_mutex_t mutex; pthread_spinlock_t spin; char behind[128]; } posix;
 static struct { qlock_cpu cpu; char behind[112]; } seats[MOST];
+static qlock_bed beds[MOST];
 static long turns;
 static int works;
 
@@ -49,6 +52,20 @@ static void *by_library(void *given) {
         }
         work();
         if (qlock_unlock(cpu, 0) != QLOCK_DONE) {
+            abort();
+        }
+    }
+    return NULL;
+}
+
+static void *by_sleep(void *given) {
+    qlock_cpu *cpu = &seats[(size_t)given].cpu;
+    for (long turn = 0; turn < turns; turn++) {
+        if (qlock_sleep_lock(cpu, 0, &beds[(size_t)given]) != QLOCK_DONE) {
+            abort();
+        }
+        work();
+        if (qlock_wake_unlock(cpu, 0, beds) != QLOCK_DONE) {
             abort();
         }
     }
@@ -90,6 +107,7 @@ static void *by_mcs(void *given) {
 
 static const struct { const char *name; void *(*runs)(void *); int family; } locks[] = {
     {"virt", by_library, QLOCK_VIRT}, {"native", by_library, QLOCK_NATIVE}, {"cna", by_library, QLOCK_CNA},
+    {"pv", by_sleep, QLOCK_PV},
     {"mutex", by_mutex, -1}, {"spin", by_spin, -1},
 #ifdef WITH_CK
     {"mcs", by_mcs, -1},
@@ -104,7 +122,7 @@ static int opens(int family, long threads) {
     for (long i = 0; i < threads; i++) {
         sockets[i] = i % 2;
     }
-    if (qlock_open(family, kinds, 1, sockets, threads, 16, made, threads) != QLOCK_DONE) {
+    if (qlock_open(family, kinds, 1, sockets, threads, family == QLOCK_PV ? SPINS : THRESHOLD, made, threads) != QLOCK_DONE) {
         return 0;
     }
     for (long i = 0; i < threads; i++) {

@@ -7,8 +7,9 @@ libck-dev is installed, and, where a built `lk_race` is named, with the same loc
 Printed are the least and the middle nanoseconds a turn, for 1, 2, 4 and 8 threads. Where valgrind is installed, so are the instructions of a
 turn of one thread: those of a run of 20,000 turns less those of a run of 10,000, in 10,000 parts.
 
-A waiter of the C library yields at each 64th look, and in Rattle by `Backoff`. With more threads than processors a queue gets few turns,
-since the next in line may not run. Where other work runs beside it, the times are those of the scheduler.
+A waiter of the C library yields at each 64th look, and in Rattle by `Backoff`; in `pv` it sleeps when its 32,768 turns are over. With more
+threads than processors a queue gets few turns, since the next in line may not run. Where other work runs beside it, the times are those of
+the scheduler.
 """
 import argparse
 import os
@@ -27,8 +28,8 @@ sys.path.insert(0, str(HERE.parent / "library"))
 
 from building import compiled
 
-TURNS = {1: 2000000, 2: 1000000, 4: 1000000, 8: 40000}
-OURS = ("virt", "native", "cna")
+TURNS = {1: 2000000, 2: 1000000, 4: 1000000, 8: 16000}
+OURS = ("virt", "native", "cna", "pv")
 KIT = Path("/usr/include/ck_spinlock.h")
 # What lies under a lock, and the word of lk_race for it.
 WORKS = {"bare": "bare", "work": "spin"}
