@@ -39,11 +39,10 @@ PV_ASKED = "    if !is_kicked(domain, own.cpu) {\n        return false;\n    }\n
 SHARED = re.compile(r"let shared = &((?:domain\.)?table)\.shared;")
 IN_DOMAIN = (
     ("cpu.rt", "    pub(crate) notes: Notes,\n", "    pub(crate) notes: Notes,\n    pub(crate) row: &'static str,\n    pub(crate) made: &'static str,\n"
-     "    pub(crate) shot: Option<Notes>,\n    pub(crate) below: u32,\n    pub(crate) wrong: u32,\n"),
+     "    pub(crate) shot: Option<crate::gate::Shot>,\n    pub(crate) below: u32,\n    pub(crate) wrong: u32,\n"),
     ("cpu.rt", "        self.notes.depth\n", "        self.notes.depth + self.below\n"),
-    ("notes.rt", "#[derive(Drop)]\npub(crate) struct Notes", "#[derive(Clone, Copy)]\npub(crate) struct Notes"),
-    ("making.rt", "            notes: Notes::new(),\n", "            notes: Notes::new(),\n            row: \"\",\n            made: \"\",\n            shot: None,\n            below: 0,\n            wrong: 0,\n"),
-    ("making.rt", "first + 64 + 32 * plan.topology.sockets.len()", "first + 64 + 32 * plan.topology.sockets.len() + crate::gate::GATE"),
+    ("making.rt", "            notes,\n", "            notes,\n            row: \"\",\n            made: \"\",\n            shot: None,\n            below: 0,\n            wrong: 0,\n"),
+    ("making.rt", "let near = plan.first_state() + plan.halting_words();", "let near = plan.first_state() + plan.halting_words() + crate::gate::GATE;"),
     ("lib.rt", "mod domain;\n", "mod domain;\npub mod gate;\n"),
 )
 
