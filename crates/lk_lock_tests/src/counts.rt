@@ -5,13 +5,16 @@ ghost use Rattle.lk_names.specs.declared.names.Kind.TheVariants.{Spin as spinnin
 ghost use Rattle.lk_lock.specs.Standing.{AllRest, IsUnder, Rests};
 
 use lk_lock::{Cpu, Domain, Locks, Seat, Spin};
-use lk_names::{List, Memory, Mode};
+use lk_names::{List, Memory, Mode, Topology};
 use std::sync::Wait;
 use std::thread;
 use std::thread::Threads;
 
 // How often each of the threads adds one.
 const TURNS: u32 = 1_000;
+
+// How many turns a waiter of a paravirtual lock spins: it halts at once.
+const SPINS: u16 = 1;
 
 // All turns of a processor. Each adds one, at a try if nobody has the lock.
 fn take_turns<R: Wait>(rt: &R, domain: &Domain, cpu: &mut Cpu, count: &Spin<u64>)
@@ -54,7 +57,8 @@ fn take_all_turns<R: Threads + Wait + Sync>(
 fn counted<R: Threads + Wait + Sync + AllocGlobal>(rt: &R, mode: Mode) -> Result<u64, Memory> {
     let mut locks = Locks::new(rt.alloc(), 4)?;
     let count = locks.spin(0u64)?;
-    let mut open = locks.open(mode)?;
+    let sockets = List::filled(rt.alloc(), 0, 4)?;
+    let mut open = locks.open_on(mode, Topology { sockets }, SPINS)?;
     take_all_turns(rt, &open.domain, &mut open.cpus, &count);
     let Ok(mut keys) = open.close(rt.alloc()) else {
         return Err(Memory);

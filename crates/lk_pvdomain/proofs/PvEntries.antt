@@ -13,7 +13,6 @@ use Rattle.lk_rows.specs.declared.parts.Pc.TheVariants.{G1}
 use Rattle.lk_rows.specs.declared.setup.Verb.{Verb}
 use Rattle.lk_law.specs.Agree.{halts}
 use Rattle.lk_law.specs.Leads.{Met, Number}
-use Rattle.lk_law.specs.Steps.{reset}
 use Rattle.lk_domain.specs.Calls.{terms_of, StandsOn, row_of, acting, Begins, slows}
 use Rattle.lk_domain.specs.Keeps.{Slot}
 use Rattle.lk_domain.specs.NodePlays.{AtEntry, Enters}

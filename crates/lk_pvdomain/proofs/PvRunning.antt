@@ -1,14 +1,11 @@
 -- A table runs by the plan of a domain whose waiters halt.
-use Rattle.std.proofs.Common.{◌≡◌, ℕ, zero, suc, length, Option, refl, sym, ap, ◌∙◌, get_or, true, arith}
-use Rattle.std.specs.declared.snapshot.Snapshot.{Snapshot}
-use Rattle.lk_names.specs.ListOf.{ListOf}
+use Rattle.std.proofs.Common.{◌≡◌, ℕ, zero, suc, length, refl, sym, ap, ◌∙◌, get_or, true, arith}
 use Rattle.std.specs.Prelude.{replicate}
 use Rattle.std.specs.List.{sum}
 use Rattle.lk_names.specs.declared.names.Kind.TheVariants.{Spin}
 use Rattle.lk_names.specs.declared.names.Mode.{Mode}
 use Rattle.lk_law.specs.Agree.{halts}
 use Rattle.lk_domain.specs.Plans.{IsRunningPlan, turns_of, turns_by}
-use Rattle.lk_domain.specs.Values.{Key}
 use Rattle.lk_domain.specs.declared.plan.Plan.{Plan}
 use Rattle.lk_pvdomain.specs.PvPlans.{IsLawful, IsPlanOf}
 use Rattle.lk_pvdomain.specs.declared.plan.PvPlan.{PvPlan}
@@ -19,22 +16,7 @@ all_spin zero i = refl
 all_spin (suc n) zero = refl
 all_spin (suc n) (suc i) = all_spin n i
 
--- the plan of a table is one of its domain with any cells
-pub with_cells : (p : PvPlan) (k : Plan) (keys : Option (Snapshot (ListOf (Option Key)))) → IsPlanOf p k
-    → IsPlanOf p (record k { cells = keys })
-with_cells p k keys e =
-    record {
-      format = e.format;
-      mode = e.mode;
-      spins = e.spins;
-      cpus = e.cpus;
-      sockets = e.sockets;
-      locks = e.locks;
-      kinds = e.kinds;
-      balances = e.balances;
-      shares = e.shares;
-    }
-
+-- processors halt by it, and a table runs by it
 pub halts_by : (p : PvPlan) (k : Plan) → IsPlanOf p k → halts k.mode ≡ true
 halts_by p k e = ap halts e.mode
 

@@ -17,10 +17,6 @@ IsDealt d = seats.IsDealt d.domain
 abbrev pub AreDealt : PvDomain → List Cpu → Type 0
 AreDealt d = seats.AreDealt d.domain
 
--- the processor i of the domain, which holds nothing and is in no call
-abbrev pub Rests : PvDomain → ℕ → Cpu → Type 0
-Rests d = ends.Rests d.domain
-
--- processors that rest, in order of their numbers
+-- processors that hold nothing and are in no call, in order of their numbers
 abbrev pub AllRest : PvDomain → List Cpu → Type 0
 AllRest d = ends.AllRest d.domain

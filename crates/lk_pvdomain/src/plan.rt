@@ -1,5 +1,5 @@
 // The plan of a domain with the paravirtual lock.
-ghost use Rattle.std.specs.Prelude.{IfOk};
+ghost use Rattle.std.specs.Prelude.{◌≡◌, IfOk, None};
 ghost use Rattle.lk_pvdomain.specs.PvPlans.{IsLawful, IsPlanOf};
 
 use lk_domain::Plan;
@@ -26,7 +26,8 @@ impl PvPlan {
     // a threshold. All processors are on one socket.
     pub(crate) fn whole(&self, alloc: Global) -> Result<Plan, Memory>
         requires { IsLawful self.now }
-        ensures { IfOk result (IsPlanOf self.now) }
+        ensures plan { IfOk result (IsPlanOf self.now) }
+        ensures none { IfOk result (λ plan. plan.cells ≡ None) }
     {
         let topology = Topology {
             sockets: List::filled(alloc, 0, self.shares.len())?,

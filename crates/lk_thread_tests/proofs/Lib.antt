@@ -2,5 +2,4 @@ mod Halted
 mod Homes
 mod TakenOff
 mod Written
-mod Counted
 mod Pages

@@ -22,8 +22,6 @@ mod pv_polls;
 #[cfg(test)]
 mod pv_region;
 #[cfg(test)]
-mod pv_values;
-#[cfg(test)]
 mod region_calls;
 #[cfg(test)]
 mod rw_calls;
