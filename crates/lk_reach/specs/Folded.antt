@@ -1,6 +1,6 @@
 -- States that stand for others: where states are folded, one is kept of those that differ only in the
 -- numbers of processors that are alike.
-use Rattle.std.specs.Prelude.{◌≡◌, ◌<◌, ◌≤◌, ℕ, Some, true, false, length, slice_get}
+use Rattle.std.specs.Prelude.{◌≡◌, ◌<◌, ◌≤◌, ℕ, IfSome, Some, true, false, length, slice_get}
 use Rattle.lk_names.specs.declared.events.Act.{Act}
 use Rattle.lk_rows.specs.declared.parts.Pc.{Pc}
 use Rattle.lk_rows.specs.declared.setup.Setup.{Setup}
@@ -41,7 +41,13 @@ pub record HaveFolds (plan : Plan) (setup : Setup) (v : SpaceValue) : Type 0 whe
   pub first : Keeps v 0 (bare (start_of plan setup))
   pub each : (k : ℕ) → k < length v.keys → HasFold plan setup v k
 
--- the state of this number is reached, and, where states are folded, by these acts
+-- the machine became itself under new numbers
+pub record IsRenumbered (plan : Plan) (setup : Setup) (old new : Machine) : Type 0 where
+  pub renaming : Renaming
+  pub fits : Fits plan setup renaming
+  pub is : new ≡ renamed renaming old
+
+-- the state of this number is reached, and if there are acts, by these
 pub record IsHere (plan : Plan) (setup : Setup) (v : SpaceValue) (here : Here) : Type 0 where
   pub begun : IsBegun plan setup
   pub state : Machine
@@ -49,8 +55,8 @@ pub record IsHere (plan : Plan) (setup : Setup) (v : SpaceValue) (here : Here) :
   pub key : slice_get v.keys here.spot.state ≡ Some here.spot.key
   pub reached : IsReached plan setup state
   pub folds : plan.folds ≡ true → HaveFolds plan setup v
-  pub moves : plan.folds ≡ true → AreMoves plan.extras setup here.way.items
-  pub leads : plan.folds ≡ true → state ≡ state_after plan setup here.way.items
+  pub moves : IfSome here.way (λ way. AreMoves plan.extras setup way.items)
+  pub leads : IfSome here.way (λ way. state ≡ state_after plan setup way.items)
 
 -- the machine is the state behind an act on this one
 abbrev pub IsBehind : Plan → Setup → SpaceValue → Here → Act → Machine → Type 0

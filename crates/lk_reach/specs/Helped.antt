@@ -1,10 +1,14 @@
 -- Helpers: what they find while nobody writes, which stays so when more is met.
-use Rattle.std.specs.Prelude.{◌≡◌, ◌<◌, ◌≤◌, ◌⊎◌, ◌++◌, ◌∷◌, ℕ, List, Option, [], length, slice_get, slice_index_or, Some}
+use Rattle.std.specs.Prelude.{true, false, ◌≡◌, ◌≢◌, ◌<◌, ◌≤◌, ◌⊎◌, ◌++◌, ◌∷◌, ℕ, List, Option, [], length, slice_get, slice_index_or, Some}
 use Rattle.lk_names.specs.declared.events.Act.{Act}
+use Rattle.lk_names.specs.declared.events.Event.{Event}
 use Rattle.lk_rows.specs.declared.setup.Setup.{Setup}
 use Rattle.lk_rows.specs.Acts.{next}
 use Rattle.lk_rows.specs.Machine.{Machine}
 use Rattle.lk_idle.specs.Alike.{AreAlike}
+use Rattle.lk_renaming.specs.Renaming.{Renaming}
+use Rattle.lk_renaming.specs.Renamed.{renamed}
+use Rattle.lk_reach.specs.declared.book.Book.{Book}
 use Rattle.lk_reach.specs.declared.found.Finding.{Finding}
 use Rattle.lk_reach.specs.declared.found.Then.{Then}
 use Rattle.lk_reach.specs.declared.found.Then.TheVariants as then
@@ -12,8 +16,10 @@ use Rattle.lk_reach.specs.declared.helper.Helper.{Helper}
 use Rattle.lk_reach.specs.declared.key.Key.{Key}
 use Rattle.lk_reach.specs.declared.plan.Plan.{Plan}
 use Rattle.lk_reach.specs.Explored.{IsGood, IsSuch, KeepsLike, OnlyMoves}
-use Rattle.lk_reach.specs.Reach.{IsBegun, IsReached, after}
-use Rattle.lk_reach.specs.Space.{Grows, IsSameKind, Keeps, KeyKeeps, SpaceValue}
+use Rattle.lk_reach.specs.Folded.{Fits, HaveFolds}
+use Rattle.lk_reach.specs.Path.{AreLow, IsPath}
+use Rattle.lk_reach.specs.Reach.{AreMoves, IsBegun, IsReached, after, state_after}
+use Rattle.lk_reach.specs.Space.{Folds, Grows, IsSameKind, Keeps, KeyKeeps, SpaceValue}
 use Rattle.lk_reach.specs.Steps.{AreMade}
 
 -- The state of this number stands for the machine, to which an act led from the state s of number left. If it is
@@ -22,10 +28,25 @@ pub record IsKnown (plan : Plan) (setup : Setup) (v : SpaceValue) (left : ℕ) (
   pub like : KeepsLike plan setup v k m
   pub stays : k ≡ left → AreAlike s m
 
+-- the first key is that of the machine, and the second that of the same machine under new numbers
+pub record HaveKeys (plan : Plan) (setup : Setup) (v : SpaceValue) (m : Machine) (key fold : Key) : Type 0 where
+  pub folds : plan.folds ≡ true
+  pub keeps : KeyKeeps v.parts v.shareds key m
+  pub renaming : Renaming
+  pub fits : Fits plan setup renaming
+  pub folded : KeyKeeps v.parts v.shareds fold (renamed renaming m)
+
 -- to this the act led
 abbrev pub LeadsThere : Plan → Setup → SpaceValue → ℕ → Machine → Machine → Then → Type 0
 LeadsThere plan setup v left s m (then.Known k) = IsKnown plan setup v left s m k
-LeadsThere plan setup v left s m (then.New key) = KeyKeeps v.parts v.shareds key m
+LeadsThere plan setup v left s m (then.New key) = (plan.folds ≡ false) × KeyKeeps v.parts v.shareds key m
+LeadsThere plan setup v left s m (then.Fold key fold) = HaveKeys plan setup v m key fold
+
+-- from the state of this number the act leads to this, and this it tells
+pub record IsTriedOn (plan : Plan) (setup : Setup) (v : SpaceValue) (left : ℕ) (a : Act) (t : Then) (event : Option Event)
+    : Type 0 where
+  pub then : (s : Machine) → Keeps v left s → IsReached plan setup s → LeadsThere plan setup v left s (after s a) t
+  pub tells : (s : Machine) → Keeps v left s → IsReached plan setup s → event ≡ (next s a).1
 
 -- what was found is so
 pub record IsFound (plan : Plan) (setup : Setup) (v : SpaceValue) (f : Finding) : Type 0 where
@@ -76,6 +97,14 @@ pub record MayLook (plan : Plan) (v : SpaceValue) (setup : Setup) : Type 0 where
   pub begun : IsBegun plan setup
   pub moves : OnlyMoves plan.extras setup plan.acts.items
   pub good : (k : ℕ) → k < length v.keys → IsGood plan setup v k
+  pub folds : plan.folds ≡ true → HaveFolds plan setup v
+
+-- the book has a schedule to each state that was met
+pub record HaveWays (plan : Plan) (b : Book) (v : SpaceValue) (setup : Setup) : Type 0 where
+  pub low : AreLow plan b
+  pub count : length b.origins ≡ length v.keys
+  pub ways : (k : ℕ) (acts : List Act) → k < length v.keys → IsPath plan b 0 k acts
+      → AreMoves plan.extras setup acts × Keeps v k (state_after plan setup acts)
 
 -- a helper may try them
 pub record IsReady (plan : Plan) (v : SpaceValue) (h : Helper) : Type 0 where
@@ -83,8 +112,12 @@ pub record IsReady (plan : Plan) (v : SpaceValue) (h : Helper) : Type 0 where
   pub such : IsSuch h.machine.setup h.machine
   pub made : AreMade h.machine.setup v h.steps.made.items
 
-abbrev pub AreReady : Plan → SpaceValue → List Helper → Type 0
-AreReady plan v hs = (i : ℕ) (d : Helper) → i < length hs → IsReady plan v (slice_index_or hs i d)
+-- and knows the schedules to them
+abbrev pub IsSent : Plan → Book → SpaceValue → Helper → Type 0
+IsSent plan b v h = IsReady plan v h × HaveWays plan b v h.machine.setup
+
+abbrev pub AreSent : Plan → Book → SpaceValue → List Helper → Type 0
+AreSent plan b v hs = (i : ℕ) (d : Helper) → i < length hs → IsSent plan b v (slice_index_or hs i d)
 
 -- a helper made an act, and found nothing so far
 pub record StaysHelper (v : SpaceValue) (old new : Helper) : Type 0 where
@@ -105,7 +138,27 @@ pub record IsKeyNoted (old new : SpaceValue) (key : Key) (k : ℕ) : Type 0 wher
   pub grows : Grows old new
   pub one : (j : ℕ) → length old.keys ≤ j → j < length new.keys → (j ≡ k) × (slice_get new.keys j ≡ Some key)
 
+-- The number is that of a state other than the one that is left, whose fold has this key, or differs from it in what
+-- nobody reads alone. Each new number is this one, and has this key and this fold.
+pub record IsFoldNoted (old new : SpaceValue) (key fold : Key) (left k : ℕ) : Type 0 where
+  pub there : k < length new.keys
+  pub other : k ≢ left
+  pub alike : (s t : Machine) → Folds new k s → KeyKeeps new.parts new.shareds fold t → IsSameKind s t → AreAlike s t
+  pub grows : Grows old new
+  pub parts : new.parts ≡ old.parts
+  pub shareds : new.shareds ≡ old.shareds
+  pub one : (j : ℕ) → length old.keys ≤ j → j < length new.keys
+      → (j ≡ k) × (slice_get new.keys j ≡ Some key) × (slice_get new.folds j ≡ Some fold)
+  pub folds : length new.folds ≡ length new.keys
+
+-- a state may get a fold, if the act led to one that has none
+abbrev pub MaySettle : SpaceValue → ℕ → Then → Type 0
+MaySettle v left (then.Known j) = Unit {0}
+MaySettle v left (then.New key) = Unit {0}
+MaySettle v left (then.Fold key fold) = (left < length v.keys) × (length v.folds ≡ length v.keys)
+
 -- the number is that of the state to which the act led, or of one that stands for it: it gets one if there is none
-abbrev pub IsSettled : SpaceValue → SpaceValue → Then → ℕ → Type 0
-IsSettled old new (then.Known j) k = (k ≡ j) × (new ≡ old)
-IsSettled old new (then.New key) k = IsKeyNoted old new key k
+abbrev pub IsSettled : SpaceValue → SpaceValue → ℕ → Then → ℕ → Type 0
+IsSettled old new left (then.Known j) k = (k ≡ j) × (new ≡ old)
+IsSettled old new left (then.New key) k = IsKeyNoted old new key k
+IsSettled old new left (then.Fold key fold) k = IsFoldNoted old new key fold left k

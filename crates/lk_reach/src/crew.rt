@@ -1,11 +1,12 @@
 // Who tries the acts of an exploration: a machine, and helpers that try them ahead of it.
 
-ghost use Rattle.std.specs.Prelude.{◌≡◌, [], IfSome, Some, false, slice_get};
-ghost use Rattle.lk_reach.specs.Helped.{AreHelpers, IsOneOf, MayLook};
+ghost use Rattle.std.specs.Prelude.{◌≡◌, [], IfSome, Some, slice_get};
+ghost use Rattle.lk_reach.specs.Helped.{AreHelpers, HaveWays, IsOneOf, MayLook};
 
+use crate::book::Book;
 use crate::found::Finding;
 use crate::helper::Helper;
-use crate::helpers::{Helpers, Part, look_at};
+use crate::helpers::{Helpers, Part};
 use crate::plan::Plan;
 use crate::space::Space;
 use crate::steps::Steps;
@@ -29,6 +30,12 @@ const LEAST_ALONE: usize = 1_024;
 // They look if at least one act of so many had to be made on these states. Where most are
 // remembered, one thread tries an act as quickly as it reads what a helper found of it.
 const ONE_OF: usize = 8;
+
+// Where states are folded, each act is made and costs a schedule, so helpers look at fewer states at
+// once.
+const FEW_FOLDED: usize = 1_024;
+
+const LEAST_FOLDED: usize = 8;
 
 /// Who tries the acts.
 #[derive(Drop)]
@@ -56,14 +63,14 @@ pub(crate) struct Crew<'a, R> {
 // How many states are tried ahead next, after so many of so many acts were found. A helper does not find
 // what leads to a part that nobody had met when it began. So after many of these it is better to begin
 // anew soon.
-fn fitting(width: usize, tried: usize, taken: usize) -> usize {
+fn fitting(width: usize, tried: usize, taken: usize, few: usize) -> usize {
     let missed = tried.saturating_sub(taken);
     let next = if missed > tried / 32 {
         width / 2
     } else {
         width.saturating_mul(2)
     };
-    next.max(FEW_AHEAD).min(MOST_AHEAD)
+    next.max(few).min(MOST_AHEAD)
 }
 
 impl<'a, R: Threads + Sync> Crew<'a, R> {
@@ -97,14 +104,35 @@ impl<'a, R: Threads + Sync> Crew<'a, R> {
     }
 
     // Whether helpers try acts ahead. A single one does not: nobody waits for it meanwhile.
-    fn looks(&self, plan: &Plan) -> bool {
-        !plan.folds && self.helpers.list.len() > 1
+    fn looks(&self) -> bool {
+        self.helpers.list.len() > 1
+    }
+
+    // Whether many acts had to be made on the last states that the machine left by itself. Where states
+    // are folded each is made.
+    fn makes_many(&mut self, plan: &Plan, state: usize) -> bool
+        ensures helpers { self.new.helpers.list.items ≡ self.old.helpers.list.items }
+        ensures machine { self.new.machine ≡ self.old.machine }
+        ensures steps { self.new.steps ≡ self.old.steps }
+    {
+        if plan.folds {
+            return state >= self.since;
+        }
+        if state < self.since.saturating_add(LEAST_ALONE) {
+            return false;
+        }
+        let left = state.saturating_sub(self.since);
+        let made = self.steps.count.saturating_sub(self.made);
+        self.since = state;
+        self.made = self.steps.count;
+        made >= left.saturating_mul(plan.acts().len()) / ONE_OF
     }
 
     /// Lets the helpers try the acts on this state and the next ones, if they have not done so, there
     /// are enough, and many acts had to be made on the last states that the machine left by itself.
-    pub(crate) fn look_ahead(&mut self, space: &mut Space, plan: &Plan, state: usize)
+    pub(crate) fn look_ahead(&mut self, space: &mut Space, plan: &Plan, book: &Book, state: usize)
         requires may { MayLook plan.now space.old self.old.machine.setup }
+        requires ways { HaveWays plan.now book.now space.old self.old.machine.setup }
         requires helpers { AreHelpers plan.now self.old.machine.setup space.old
             self.old.helpers.list.items }
         ensures helpers { AreHelpers plan.now self.old.machine.setup space.new
@@ -113,20 +141,21 @@ impl<'a, R: Threads + Sync> Crew<'a, R> {
         ensures machine { self.new.machine ≡ self.old.machine }
         ensures steps { self.new.steps ≡ self.old.steps }
     {
-        if state < self.since.saturating_add(LEAST_ALONE) || !self.looks(plan) {
+        if !self.looks() {
             return;
         }
-        let left = state.saturating_sub(self.since);
-        let made = self.steps.count.saturating_sub(self.made);
-        self.since = state;
-        self.made = self.steps.count;
-        if made < left.saturating_mul(plan.acts().len()) / ONE_OF {
+        if !self.makes_many(plan, state) {
             return;
         }
-        let width = fitting(self.width, self.tried, self.taken);
+        let (few, least) = if plan.folds {
+            (FEW_FOLDED, LEAST_FOLDED)
+        } else {
+            (FEW_AHEAD, LEAST_AHEAD)
+        };
+        let width = fitting(self.width, self.tried, self.taken, few);
         let to = space.len().min(state.saturating_add(width));
         let count = to.saturating_sub(state);
-        if count < LEAST_AHEAD {
+        if count < least {
             return;
         }
         let rt = self.helpers.rt;
@@ -139,7 +168,7 @@ impl<'a, R: Threads + Sync> Crew<'a, R> {
         self.tried = count.saturating_mul(plan.acts().len());
         self.taken = 0;
         let part = Part { from: state, to };
-        look_at(rt, self.helpers.list.as_mut_slice(), space, plan, part);
+        self.helpers.look_at(space, plan, book, part);
     }
 
     // Goes on to a helper of whose findings some are left, if there is one.
@@ -169,18 +198,38 @@ impl<'a, R: Threads + Sync> Crew<'a, R> {
         Some(finding)
     }
 
+    /// Whether the machine makes acts on a state by itself for which it takes a schedule to it: where
+    /// states are folded, if helpers did not find all acts.
+    pub(crate) fn makes(&self, plan: &Plan, state: usize) -> bool {
+        plan.folds && !self.has_all(plan.acts().len(), state)
+    }
+
+    // Whether the next findings are those of all acts on a state, of which there are so many.
+    fn has_all(&self, acts: usize, state: usize) -> bool {
+        if state >= self.ahead {
+            return false;
+        }
+        let last = self.next.saturating_add(acts).saturating_sub(1);
+        match helper_at(&self.helpers.list, self.at) {
+            Some(helper) => match finding_at(&helper.findings, last) {
+                Some(finding) => finding.state as usize == state,
+                None => false,
+            },
+            None => false,
+        }
+    }
+
     /// What a helper found of an act on a state, if it did. It is taken once, and in the order of the
     /// states and of the acts.
-    pub(crate) fn take(&mut self, plan: &Plan, state: usize, act: usize) -> Option<Finding>
+    pub(crate) fn take(&mut self, state: usize, act: usize) -> Option<Finding>
         ensures one { IfSome result (IsOneOf self.old.helpers.list.items) }
         ensures state { IfSome result (λ f. f.state ≡ state) }
         ensures act { IfSome result (λ f. f.act ≡ act) }
-        ensures plain { IfSome result (λ f. plan.now.folds ≡ false) }
         ensures helpers { self.new.helpers.list.items ≡ self.old.helpers.list.items }
         ensures machine { self.new.machine ≡ self.old.machine }
         ensures steps { self.new.steps ≡ self.old.steps }
     {
-        if plan.folds || state >= self.ahead {
+        if state >= self.ahead {
             return None;
         }
         self.turn();

@@ -4,10 +4,9 @@ ghost use Rattle.std.specs.Prelude.{◌≡◌, ◌<◌, ◌≤◌, ◌+◌, ℕ,
 ghost use Rattle.lk_names.specs.declared.events.Act.{Act as ActValue};
 ghost use Rattle.lk_rows.specs.Acts.{next};
 ghost use Rattle.lk_rows.specs.Machine.{Machine as MachineValue};
-ghost use Rattle.lk_reach.specs.Path.{AreLow, IsPath};
 ghost use Rattle.lk_reach.specs.Reach.{AreMoves, IsBegun, IsMove, IsReached, after, state_after};
 ghost use Rattle.lk_reach.specs.Folded.{IsHere, IsNoted};
-ghost use Rattle.lk_reach.specs.Helped.{AreFresh, AreHelpers, IsSettled};
+ghost use Rattle.lk_reach.specs.Helped.{AreFresh, AreHelpers, IsSettled, MaySettle};
 ghost use Rattle.lk_reach.specs.Space.{Folds, Keeps};
 ghost use Rattle.lk_reach.specs.Steps.{AreMade};
 ghost use Rattle.lk_reach.specs.Explored.{AreColumns, IsExplored, IsGood, IsNew, IsStart, IsSuch, KnowsLike, OnlyMoves};
@@ -18,15 +17,14 @@ mod anew;
 use crate::book::{Book, Seen};
 use crate::crew::Crew;
 use crate::exploring::anew::make_anew;
-use crate::folding::{Here, fold};
+use crate::folding::{Here, fold, here_at};
 use crate::found::Then;
 use crate::graph::Graph;
 use crate::helpers::Helpers;
 use crate::making::make;
-use crate::path::path_to;
 use crate::plan::Plan;
 use crate::space::Space;
-use crate::spot::{Spot, remembered};
+use crate::spot::remembered;
 use crate::table::MOST;
 use lk_core::{acts_change_little, runs_keep};
 use lk_machine::Machine;
@@ -150,13 +148,18 @@ fn visit<R: Threads + Sync>(
 
 // The number of the state to which an act led, or of one that stands for it. It gets one if there is
 // none.
-fn settle(space: &mut Space, then: &Then) -> Result<u32, Memory>
-    ensures { IfOk result (λ k. IsSettled space.old space.new then.now k) }
+fn settle(space: &mut Space, then: &Then, left: usize) -> Result<u32, Memory>
+    requires { MaySettle space.old left then.now }
+    ensures { IfOk result (λ k. IsSettled space.old space.new left then.now k) }
 {
     match then {
         Then::Known(number) => Ok(*number),
         Then::New(key) => {
             let number = space.note_unseen(key)?;
+            Ok(number)
+        }
+        Then::Fold(key, fold) => {
+            let number = space.note_folded(key, fold, left)?;
             Ok(number)
         }
     }
@@ -193,9 +196,9 @@ fn lead<R: Threads + Sync>(
     ensures helpers { OnOk result (AreHelpers plan.now crew.old.machine.setup space.new
         crew.new.helpers.list.items) }
 {
-    match crew.take(plan, here.spot.state, number) {
+    match crew.take(here.spot.state, number) {
         Some(finding) => {
-            let then = settle(space, &finding.then)?;
+            let then = settle(space, &finding.then, here.spot.state)?;
             Ok((then, finding.event))
         }
         None => {
@@ -203,28 +206,6 @@ fn lead<R: Threads + Sync>(
             Ok(found)
         }
     }
-}
-
-// The state that is left next. To fold what is behind it, it takes a schedule to it.
-fn here_at(plan: &Plan, book: &Book, space: &Space, state: usize) -> Result<Here, Memory>
-    requires low { AreLow plan.now book.now }
-    requires there { state < length book.now.origins }
-    requires met { state < length space.now.keys }
-    ensures state { IfOk result (λ here. here.spot.state ≡ state) }
-    ensures key { IfOk result (λ here. slice_get space.now.keys state ≡ Some here.spot.key) }
-    ensures way { IfOk result (λ here. plan.now.folds ≡ true
-        → IsPath plan.now book.now 0 state here.way.items) }
-{
-    let alloc = space.memory();
-    let way = if plan.folds {
-        path_to(alloc, plan, book, state)?
-    } else {
-        Vec::new(alloc)
-    };
-    let key = space.key_at(state);
-    let hash = space.hash_of(&key);
-    let spot = Spot { state, key, hash };
-    Ok(Here { spot, way })
 }
 
 // Makes every act on a state.
@@ -257,7 +238,8 @@ fn leave<R: Threads + Sync>(
 {
     runs_keep();
     acts_change_little();
-    let here = here_at(plan, book, space, state)?;
+    let wanted = crew.makes(plan, state);
+    let here = here_at(plan, book, space, state, wanted)?;
     let acts = plan.acts();
     for number in 0..acts.len() {
         let (then, event) = lead(space, crew, plan, &here, number)?;
@@ -299,7 +281,7 @@ fn leave_all<W: Watch, R: Threads + Sync>(
         if !watch.goes_on(seen) {
             return Ok(state);
         }
-        crew.look_ahead(space, plan, state);
+        crew.look_ahead(space, plan, book, state);
         leave(space, crew, plan, state, book)?;
     }
     Ok(MOST)

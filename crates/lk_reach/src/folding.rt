@@ -1,15 +1,22 @@
 // What is behind a state, under new numbers. The state behind a schedule under new numbers is the one
 // behind the schedule under new numbers: so it is reached, and no number in it is changed.
 
-ghost use Rattle.std.specs.Prelude.{◌≡◌, ◌<◌, ◌≤◌, IfOk, OnOk, Some, length, slice_get, true};
+ghost use Rattle.std.specs.Prelude.{◌≡◌, ◌<◌, ◌≤◌, IfOk, IfSome, OnOk, Some, length, slice_get, true};
+ghost use Rattle.lk_rows.specs.Machine.{Machine as MachineValue};
 ghost use Rattle.lk_renaming.specs.Renamed.{renamed};
 ghost use Rattle.lk_reach.specs.Explored.{IsSuch};
-ghost use Rattle.lk_reach.specs.Folded.{Fits, IsBehind, IsHere, IsNoted};
+ghost use Rattle.lk_reach.specs.Folded.{Fits, HaveFolds, IsBehind, IsHere, IsNoted, IsRenumbered};
+ghost use Rattle.lk_reach.specs.Helped.{LeadsThere};
 ghost use Rattle.lk_reach.specs.Order.{renaming_of};
-ghost use Rattle.lk_reach.specs.Reach.{IsBegun, IsMove, state_after};
+ghost use Rattle.lk_reach.specs.Path.{AreLow, IsPath};
+ghost use Rattle.lk_reach.specs.Reach.{AreMoves, IsBegun, IsMove, IsReached, state_after};
+ghost use Rattle.lk_reach.specs.Space.{Keeps};
 
+use crate::book::Book;
+use crate::found::Then;
 use crate::making::make;
 use crate::order::Order;
+use crate::path::path_to;
 use crate::plan::Plan;
 use crate::sorting::order_of;
 use crate::space::Space;
@@ -21,18 +28,16 @@ use lk_names::{Act, Memory};
 #[derive(Drop)]
 pub(crate) struct Here {
     pub spot: Spot,
-    /// If states are folded, the acts of a schedule to it.
-    pub way: Vec<Act>,
+    /// The acts of a schedule to it, if they are wanted.
+    pub way: Option<Vec<Act>>,
 }
 
-impl Here {
-    // An act of the schedule.
-    fn step(&self, at: usize) -> Act
-        requires { at < length self.now.way.items }
-        ensures { slice_get self.now.way.items at ≡ Some result }
-    {
-        self.way[at]
-    }
+// An act of a schedule.
+fn step(way: &Vec<Act>, at: usize) -> Act
+    requires { at < length way.now.items }
+    ensures { slice_get way.now.items at ≡ Some result }
+{
+    way[at]
 }
 
 // New numbers that sort the processors of a machine that are alike.
@@ -51,20 +56,70 @@ fn order_for(plan: &Plan, machine: &Machine) -> Order
     }
 }
 
-// The machine becomes the state that is left, under new numbers.
-fn run_renamed(space: &Space, machine: &mut Machine, plan: &Plan, here: &Here, order: &Order)
+// The machine becomes the state behind a schedule, under new numbers.
+fn run_renamed(space: &Space, machine: &mut Machine, plan: &Plan, way: &Vec<Act>, order: &Order)
+    requires few { length machine.old.cpus ≤ 8 }
+    requires such { IsSuch machine.old.setup machine.old }
+    requires begun { IsBegun plan.now machine.old.setup }
+    requires folds { HaveFolds plan.now machine.old.setup space.now }
+    requires moves { AreMoves plan.now.extras machine.old.setup way.now.items }
+    requires order { Fits plan.now machine.old.setup (renaming_of order.now) }
+    ensures { machine.new ≡ renamed (renaming_of order.now)
+        (state_after plan.now machine.old.setup way.now.items) }
+{
+    let _ = plan;
+    space.load(0, machine);
+    for at in 0..way.len() {
+        let _ = make(machine, order.act(step(way, at)));
+    }
+}
+
+/// The state that is left next, with a schedule to it if that is wanted.
+///
+/// # Errors
+///
+/// There is not enough memory.
+pub(crate) fn here_at(
+    plan: &Plan,
+    book: &Book,
+    space: &Space,
+    state: usize,
+    wanted: bool,
+) -> Result<Here, Memory>
+    requires low { AreLow plan.now book.now }
+    requires there { state < length book.now.origins }
+    requires met { state < length space.now.keys }
+    ensures state { IfOk result (λ here. here.spot.state ≡ state) }
+    ensures key { IfOk result (λ here. slice_get space.now.keys state ≡ Some here.spot.key) }
+    ensures way { IfOk result
+        (λ here. IfSome here.way (λ way. IsPath plan.now book.now 0 state way.items)) }
+{
+    let way = if wanted {
+        Some(path_to(space.memory(), plan, book, state)?)
+    } else {
+        None
+    };
+    let key = space.key_at(state);
+    let hash = space.hash_of(&key);
+    let spot = Spot { state, key, hash };
+    Ok(Here { spot, way })
+}
+
+// The machine, which an act led to from the state that is left, becomes its fold. Without a schedule it
+// keeps its numbers.
+fn become_fold(space: &Space, machine: &mut Machine, plan: &Plan, here: &Here, doing: Act)
     requires few { length machine.old.cpus ≤ 8 }
     requires such { IsSuch machine.old.setup machine.old }
     requires here { IsHere plan.now machine.old.setup space.now here.now }
     requires folds { plan.now.folds ≡ true }
-    requires order { Fits plan.now machine.old.setup (renaming_of order.now) }
-    ensures { machine.new ≡ renamed (renaming_of order.now)
-        (state_after plan.now machine.old.setup here.now.way.items) }
+    requires moves { IsMove plan.now.extras machine.old.setup doing }
+    requires behind { IsBehind plan.now machine.old.setup space.now here.now doing machine.old }
+    ensures { IsRenumbered plan.now machine.old.setup machine.old machine.new }
 {
-    let _ = plan;
-    space.load(0, machine);
-    for at in 0..here.way.len() {
-        let _ = make(machine, order.act(here.step(at)));
+    if let Some(way) = &here.way {
+        let order = order_for(plan, machine);
+        run_renamed(space, machine, plan, way, &order);
+        let _ = make(machine, order.act(doing));
     }
 }
 
@@ -95,9 +150,40 @@ pub(crate) fn fold(
     if let Some(number) = space.like(here.spot.state, &key) {
         return Ok(number);
     }
-    let order = order_for(plan, machine);
-    run_renamed(space, machine, plan, here, &order);
-    let _ = make(machine, order.act(doing));
+    become_fold(space, machine, plan, here, doing);
     let number = space.note_fold(machine, &key, here.spot.state)?;
     Ok(number)
+}
+
+/// Where the act led from the state that is left, behind which the machine is, if each part of it and of
+/// its fold was met. The machine is any of its setup afterwards.
+pub(crate) fn fold_seen(
+    space: &Space,
+    machine: &mut Machine,
+    plan: &Plan,
+    here: &Here,
+    doing: Act,
+) -> Option<Then>
+    requires few { length machine.old.cpus ≤ 8 }
+    requires such { IsSuch machine.old.setup machine.old }
+    requires here { IsHere plan.now machine.old.setup space.now here.now }
+    requires folds { plan.now.folds ≡ true }
+    requires moves { IsMove plan.now.extras machine.old.setup doing }
+    requires behind { IsBehind plan.now machine.old.setup space.now here.now doing machine.old }
+    ensures leads { IfSome result (λ then. (s : MachineValue) → Keeps space.now here.now.spot.state s
+        → IsReached plan.now machine.old.setup s → LeadsThere plan.now machine.old.setup space.now
+        here.now.spot.state s machine.old then) }
+    ensures such { IsSuch machine.old.setup machine.new }
+{
+    let left = here.spot.state;
+    let key = space.key_seen(machine, left)?;
+    if let Some(number) = space.like(left, &key) {
+        return Some(Then::Known(number));
+    }
+    become_fold(space, machine, plan, here, doing);
+    let fold = space.key_seen(machine, left)?;
+    match space.known_fold(&fold, left) {
+        Some(number) => Some(Then::Known(number)),
+        None => Some(Then::Fold(key, fold)),
+    }
 }

@@ -11,6 +11,9 @@ pub(crate) enum Then {
     Known(u32),
     /// To a state with this key, for which none stood that had been met.
     New(Key),
+    /// Where states are folded: to a state with the first key, whose fold has the second, for which none
+    /// stood that had been met.
+    Fold(Key, Key),
 }
 
 /// What an act on a state led to.

@@ -1,24 +1,28 @@
 // A helper: it tries acts on states with a machine of its own, beside others that do so, while nobody
 // writes down anything.
 
-ghost use Rattle.std.specs.Prelude.{◌≡◌, ◌<◌, ◌≤◌, IfOk, IfSome, length};
+ghost use Rattle.std.specs.Prelude.{◌≡◌, ◌<◌, ◌≤◌, IfOk, IfSome, length, true, false};
 ghost use Rattle.lk_rows.specs.Machine.{Machine as MachineValue};
 ghost use Rattle.lk_rows.specs.Programs.{IsLawfulSetup};
 ghost use Rattle.lk_idle.specs.Alike.{AreAlike};
 ghost use Rattle.lk_reach.specs.Copies.{tight_setup};
-ghost use Rattle.lk_reach.specs.Helped.{AreFound, HasLooked, IsFound, IsFresh, IsReady, MayKeep, StaysHelper};
+ghost use Rattle.lk_reach.specs.Folded.{IsHere};
+ghost use Rattle.lk_reach.specs.Helped.{AreFound, HasLooked, IsFound, IsFresh, IsReady, IsSent, IsTriedOn, MayKeep, StaysHelper};
+ghost use Rattle.lk_reach.specs.Reach.{IsMove};
 ghost use Rattle.lk_reach.specs.Space.{IsSameKind, Keeps, KeyKeeps};
-ghost use Rattle.lk_reach.specs.Steps.{IsSpot};
 
+use crate::book::Book;
 use crate::copies::copy_of;
+use crate::folding::{Here, fold_seen, here_at};
 use crate::found::{Finding, Then};
 use crate::helpers::Part;
+use crate::making::make;
 use crate::plan::Plan;
 use crate::space::Space;
-use crate::spot::{Led, Spot, lead};
+use crate::spot::{Led, lead};
 use crate::steps::Steps;
 use lk_machine::Machine;
-use lk_names::Memory;
+use lk_names::{Act, Event, Memory};
 use lk_rows::Setup;
 use std::alloc::Global;
 
@@ -83,56 +87,119 @@ impl Helper {
         }
     }
 
-    // Tries an act on a state. Returns what it led to, if each part of that was met.
-    fn find(&mut self, space: &Space, plan: &Plan, spot: &Spot, act: usize) -> Option<Finding>
+    // Where an act leads from a state, and what it tells, where no states are folded.
+    fn try_plain(
+        &mut self,
+        space: &Space,
+        plan: &Plan,
+        here: &Here,
+        doing: Act,
+    ) -> Option<(Then, Option<Event>)>
         requires ready { IsReady plan.now space.now self.old }
-        requires spot { IsSpot self.old.machine.setup space.now spot.now }
+        requires here { IsHere plan.now self.old.machine.setup space.now here.now }
+        requires moves { IsMove plan.now.extras self.old.machine.setup doing }
+        requires plain { plan.now.folds ≡ false }
+        ensures tried { IfSome result (λ t. IsTriedOn plan.now self.old.machine.setup space.now
+            here.now.spot.state doing t.0 t.1) }
+        ensures kept { StaysHelper space.now self.old self.new }
+    {
+        let _ = plan;
+        let led = lead(space, &mut self.machine, &mut self.steps, &here.spot, doing)?;
+        match self.seek(space, &led) {
+            Some(known) => Some((Then::Known(known), led.event)),
+            None => Some((Then::New(led.key), led.event)),
+        }
+    }
+
+    // The same where states are folded.
+    fn try_folded(
+        &mut self,
+        space: &Space,
+        plan: &Plan,
+        here: &Here,
+        doing: Act,
+    ) -> Option<(Then, Option<Event>)>
+        requires ready { IsReady plan.now space.now self.old }
+        requires here { IsHere plan.now self.old.machine.setup space.now here.now }
+        requires moves { IsMove plan.now.extras self.old.machine.setup doing }
+        requires folds { plan.now.folds ≡ true }
+        ensures tried { IfSome result (λ t. IsTriedOn plan.now self.old.machine.setup space.now
+            here.now.spot.state doing t.0 t.1) }
+        ensures kept { StaysHelper space.now self.old self.new }
+    {
+        space.load(here.spot.state, &mut self.machine);
+        let event = make(&mut self.machine, doing);
+        let then = fold_seen(space, &mut self.machine, plan, here, doing)?;
+        Some((then, event))
+    }
+
+    // Where an act leads from a state, and what it tells, if each part of that was met.
+    fn try_act(
+        &mut self,
+        space: &Space,
+        plan: &Plan,
+        here: &Here,
+        doing: Act,
+    ) -> Option<(Then, Option<Event>)>
+        requires ready { IsReady plan.now space.now self.old }
+        requires here { IsHere plan.now self.old.machine.setup space.now here.now }
+        requires moves { IsMove plan.now.extras self.old.machine.setup doing }
+        ensures tried { IfSome result (λ t. IsTriedOn plan.now self.old.machine.setup space.now
+            here.now.spot.state doing t.0 t.1) }
+        ensures kept { StaysHelper space.now self.old self.new }
+    {
+        if plan.folds {
+            self.try_folded(space, plan, here, doing)
+        } else {
+            self.try_plain(space, plan, here, doing)
+        }
+    }
+
+    // Tries an act on a state. Returns what it led to, if each part of that was met.
+    fn find(&mut self, space: &Space, plan: &Plan, here: &Here, act: usize) -> Option<Finding>
+        requires ready { IsReady plan.now space.now self.old }
+        requires here { IsHere plan.now self.old.machine.setup space.now here.now }
         requires act { act < length plan.now.acts.items }
         ensures found { IfSome result
             (λ f. IsFound plan.now self.old.machine.setup space.now f) }
         ensures kept { StaysHelper space.now self.old self.new }
     {
-        let state = number_of(spot.state)?;
+        let state = number_of(here.spot.state)?;
         let by = number_of(act)?;
-        let doing = plan.act(act);
-        let led = lead(space, &mut self.machine, &mut self.steps, spot, doing)?;
-        let then = match self.seek(space, &led) {
-            Some(known) => Then::Known(known),
-            None => Then::New(led.key),
-        };
+        let (then, event) = self.try_act(space, plan, here, plan.act(act))?;
         Some(Finding {
             state,
             act: by,
-            event: led.event,
+            event,
             then,
         })
     }
 
     // Tries every act on a state. What there is no room for is not kept.
-    fn leave(&mut self, space: &Space, plan: &Plan, state: usize)
-        requires ready { IsReady plan.now space.now self.old }
+    fn leave(&mut self, space: &Space, plan: &Plan, book: &Book, state: usize)
+        requires sent { IsSent plan.now book.now space.now self.old }
         requires there { state < length space.now.keys }
         requires found { AreFound plan.now self.old.machine.setup space.now self.old.findings.items }
         ensures { HasLooked plan.now space.now self.old self.new }
     {
-        let key = space.key_at(state);
-        let hash = space.hash_of(&key);
-        let spot = Spot { state, key, hash };
+        let Ok(here) = here_at(plan, book, space, state, plan.folds) else {
+            return;
+        };
         for act in 0..plan.acts().len() {
-            let found = self.find(space, plan, &spot, act);
+            let found = self.find(space, plan, &here, act);
             keep(&mut self.findings, found);
         }
     }
 
     /// Tries every act on some states. What it found before is gone.
-    pub(crate) fn look(&mut self, space: &Space, plan: &Plan, part: Part)
-        requires ready { IsReady plan.now space.now self.old }
+    pub(crate) fn look(&mut self, space: &Space, plan: &Plan, book: &Book, part: Part)
+        requires sent { IsSent plan.now book.now space.now self.old }
         requires there { part.to ≤ length space.now.keys }
         ensures { HasLooked plan.now space.now self.old self.new }
     {
         self.findings.clear();
         for state in part.from..part.to {
-            self.leave(space, plan, state);
+            self.leave(space, plan, book, state);
         }
     }
 }

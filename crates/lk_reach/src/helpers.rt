@@ -7,8 +7,9 @@ ghost use Rattle.std.specs.Prelude.{◌≡◌, ◌≤◌, ◌<◌, ◌++◌, ◌
 ghost use Rattle.lk_rows.specs.Programs.{IsLawfulSetup};
 ghost use Rattle.lk_reach.specs.Copies.{tight_setup};
 ghost use Rattle.lk_reach.specs.declared.helper.Helper.{Helper as HelperValue};
-ghost use Rattle.lk_reach.specs.Helped.{AreFresh, AreReady, HasLooked, IsReady};
+ghost use Rattle.lk_reach.specs.Helped.{AreFresh, AreSent, HasLooked, IsSent};
 
+use crate::book::Book;
 use crate::helper::Helper;
 use crate::plan::Plan;
 use crate::space::Space;
@@ -76,6 +77,32 @@ impl<'a, R: Threads + Sync> Helpers<'a, R> {
         }
         Ok(Helpers { rt, list })
     }
+
+    /// Tries every act on some states, of which each helper has as many, to one.
+    pub(crate) fn look_at(&mut self, space: &Space, plan: &Plan, book: &Book, part: Part)
+        requires sent { AreSent plan.now book.now space.now self.old.list.items }
+        requires there { part.to ≤ length space.now.keys }
+        ensures count { length self.new.list.items ≡ length self.old.list.items }
+        ensures looked { (i : ℕ) (d : HelperValue) → i < length self.old.list.items
+            → HasLooked plan.now space.now (slice_index_or self.old.list.items i d)
+            (slice_index_or self.new.list.items i d) }
+    {
+        let count = self.list.len();
+        if count == 0 {
+            return;
+        }
+        let each = part.len().div_ceil(count);
+        thread::for_each_mut(
+            self.rt,
+            self.list.as_mut_slice(),
+            count,
+            &|index: usize, helper: &mut Helper|
+                requires { IsSent plan.now book.now space.now helper.now
+                    × (part.to ≤ length space.now.keys) }
+                ensures { HasLooked plan.entry.now space.entry.now helper.entry.now helper.exit.now }
+            { helper.look(space, plan, book, part.share(index, each)) },
+        );
+    }
 }
 
 // Adds a helper.
@@ -83,39 +110,4 @@ fn add(list: &mut Vec<Helper>, helper: Helper) -> Result<(), Memory>
     ensures { OnOk result (list.new.items ≡ list.old.items ++ helper ∷ []) }
 {
     list.push(helper).map_err(|_| Memory)
-}
-
-/// Tries every act on some states, of which each helper has as many, to one.
-pub(crate) fn look_at<R: Threads + Sync>(
-    rt: &R,
-    helpers: &mut [Helper],
-    space: &Space,
-    plan: &Plan,
-    part: Part,
-)
-    requires ready { AreReady plan.now space.now helpers.old }
-    requires there { part.to ≤ length space.now.keys }
-    ensures count { length helpers.new ≡ length helpers.old }
-    ensures looked { (i : ℕ) (d : HelperValue) → i < length helpers.old
-        → HasLooked plan.now space.now (slice_index_or helpers.old i d)
-        (slice_index_or helpers.new i d) }
-{
-    let count = helpers.len();
-    if count == 0 {
-        return;
-    }
-    if count == 1 {
-        helpers[0].look(space, plan, part);
-        return;
-    }
-    let each = part.len().div_ceil(count);
-    thread::for_each_mut(
-        rt,
-        helpers,
-        count,
-        &|index: usize, helper: &mut Helper|
-            requires { IsReady plan.now space.now helper.now × (part.to ≤ length space.now.keys) }
-            ensures { HasLooked plan.entry.now space.entry.now helper.entry.now helper.exit.now }
-        { helper.look(space, plan, part.share(index, each)) },
-    );
 }

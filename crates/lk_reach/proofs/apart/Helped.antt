@@ -1,7 +1,7 @@
 -- What helpers find stays so, and gives the numbers that one thread alone would give.
-use Rattle.std.proofs.Common.{arith, ℕ, ◌≡◌, ◌∙◌, ◌<◌, ◌++◌, List, [], ◌∷◌, Option, Some, false, length, ap, inl, inr, refl, sym, subst}
+use Rattle.std.proofs.Common.{arith, ℕ, ◌≡◌, ◌∙◌, ◌<◌, ◌++◌, List, [], ◌∷◌, Option, Some, None, true, false, length, ap, inl, inr, refl, sym, subst}
 use Rattle.std.proofs.lemmas.List.{append-nil, drop_all, length-replicate, take_all}
-use Rattle.std.specs.Prelude.{IfSome, drop, slice_get, slice_index_or, take}
+use Rattle.std.specs.Prelude.{◌≢◌, IfSome, drop, slice_get, slice_index_or, take}
 use Rattle.std.proofs.lemmas.Option.{slice_get_within, slice_get-get_or}
 use Rattle.lk_names.specs.declared.events.Act.{Act}
 use Rattle.lk_rows.specs.declared.setup.Setup.{Setup}
@@ -10,6 +10,8 @@ use Rattle.lk_rows.specs.Machine.{Machine, rest_lock}
 use Rattle.lk_rows.specs.Run.{at_rest}
 use Rattle.lk_names.proofs.ByIndex.{get-append}
 use Rattle.lk_idle.specs.Alike.{AreAlike}
+use Rattle.lk_renaming.specs.Renaming.{Renaming}
+use Rattle.lk_renaming.specs.Renamed.{renamed}
 use Rattle.lk_reach.specs.declared.folding.Here.{Here}
 use Rattle.lk_reach.specs.declared.found.Finding.{Finding}
 use Rattle.lk_reach.specs.declared.found.Then.{Then}
@@ -19,18 +21,18 @@ use Rattle.lk_reach.specs.declared.key.Key.{Key}
 use Rattle.lk_reach.specs.declared.plan.Plan.{Plan}
 use Rattle.lk_reach.specs.declared.steps.Made.{Made}
 use Rattle.lk_reach.specs.Explored.{IsGood, IsSuch}
-use Rattle.lk_reach.specs.Folded.{IsHere, IsNoted, StandsFor}
-use Rattle.lk_reach.specs.Helped.{AreFound, AreFresh, AreHelpers, HasLooked, IsFound, IsFresh, IsHelper, IsKeyNoted, IsKnown, IsOneOf}
-use Rattle.lk_reach.specs.Helped.{IsSettled, LeadsThere, MayKeep}
-use Rattle.lk_reach.specs.Reach.{IsBegun, IsMove, IsReached, after}
-use Rattle.lk_reach.specs.Space.{Grows, IsSameKind, Keeps, KeyKeeps, SpaceValue}
+use Rattle.lk_reach.specs.Folded.{Fits, HaveFolds, IsHere, IsNoted, StandsFor}
+use Rattle.lk_reach.specs.Helped.{AreFound, AreFresh, AreHelpers, HasLooked, HaveKeys, IsFoldNoted, IsFound, IsFresh, IsHelper}
+use Rattle.lk_reach.specs.Helped.{IsKeyNoted, IsKnown, IsOneOf, IsSettled, LeadsThere, MayKeep, MaySettle}
+use Rattle.lk_reach.specs.Reach.{AreMoves, IsBegun, IsMove, IsReached, after, state_after}
+use Rattle.lk_reach.specs.Space.{AddsParts, Folds, Grows, IsSameKind, Keeps, KeyKeeps, SpaceValue}
 use Rattle.lk_reach.specs.Steps.{AreMade}
 use Rattle.lk_reach.proofs.Closed.{reached_such, reached_then, rest_cpus_of, same_state}
 use Rattle.lk_reach.proofs.Folded.{laws, stands_alike}
 use Rattle.lk_reach.proofs.apart.Grown.{like_grown}
 use Rattle.lk_reach.proofs.Kept.{key_grown, keeps_grown, one_value}
 use Rattle.lk_reach.proofs.Left.{grows_self}
-use Rattle.lk_reach.proofs.apart.Noted.{plain_noted, same_kind}
+use Rattle.lk_reach.proofs.apart.Noted.{fold_noted, plain_noted, same_kind}
 use Rattle.lk_reach.proofs.apart.Remembered.{made_grown}
 
 -- nothing stands in an empty list
@@ -58,6 +60,14 @@ pub lent_whole : {A : Type 0} → (xs ys : List A) (n : ℕ) → length ys ≡ l
 lent_whole xs ys n e f =
     ap (λ zs. take n (ys ++ zs)) (drop_all (length ys) xs (omega (arith, e)))
     ∙ ap (λ zs. take n zs) (append-nil ys) ∙ take_all n ys (omega (arith, e, f))
+
+-- what is so of a thing, if there is one
+pub if_some : {A : Type 0} → (o : Option A) (P Q : A → Type 0) → ((x : A) → P x → Q x) → IfSome o P → IfSome o Q
+if_some (Some x) P Q f y = f x y
+if_some None P Q f y = tt
+
+adds_none : (v : SpaceValue) → AddsParts v v
+adds_none v = record { grows = grows_self v; keys = refl; folds = refl }
 
 -- one more helper
 pub fresh_more : (setup : Setup) (hs : List Helper) (h : Helper) → AreFresh setup hs → IsFresh setup h
@@ -100,7 +110,14 @@ module _ (plan : Plan) (setup : Setup) where
     like = like_grown plan setup v w g k m x.like;
     stays = x.stays;
   }
-  leads_grown v w g left s m (then.New key) x = key_grown v w g key m x
+  leads_grown v w g left s m (then.New key) x = (x.0, key_grown v w g key m x.1)
+  leads_grown v w g left s m (then.Fold key fold) x = record {
+    folds = x.folds;
+    keeps = key_grown v w g key m x.keeps;
+    renaming = x.renaming;
+    fits = x.fits;
+    folded = key_grown v w g fold (renamed x.renaming m) x.folded;
+  }
 
   pub found_grown : (v w : SpaceValue) → Grows v w → (f : Finding) → IsFound plan setup v f → IsFound plan setup w f
   found_grown v w g f x = record {
@@ -129,7 +146,7 @@ module _ (plan : Plan) (setup : Setup) where
 
   -- where an act leads that was found to lead there
   module _ (begun : IsBegun plan setup) (v w : SpaceValue) (here : Here) (k : ℕ) (is : IsHere plan setup v here)
-      (plain : plan.folds ≡ false) (s : Machine) (a : Act) (has : Keeps v here.spot.state s) (reached : IsReached plan setup s)
+      (s : Machine) (a : Act) (has : Keeps v here.spot.state s) (reached : IsReached plan setup s)
       (move : IsMove plan.extras setup a) where
     there : IsReached plan setup (after s a)
     there = reached_then laws plan setup begun s a reached move
@@ -151,20 +168,32 @@ module _ (plan : Plan) (setup : Setup) where
       folds = λ yes. is.folds yes;
     }
 
-    key_noted : (key : Key) → KeyKeeps v.parts v.shareds key (after s a) → IsKeyNoted v w key k
+    key_noted : (key : Key) → plan.folds ≡ false → KeyKeeps v.parts v.shareds key (after s a) → IsKeyNoted v w key k
         → IsNoted plan setup v w here.spot.state (after s a) k
-    key_noted key x e =
+    key_noted key plain x e =
         let keeps = key_grown v w e.grows key (after s a) x in
         plain_noted plan setup begun v w here.spot.state k (after s a) such plain e.there
         (λ t at kind. e.alike t (after s a) at keeps kind) e.grows
         (λ j high low. let one = e.one j high low in (one.0, record { key = key; is = one.1; keeps = keeps }))
 
-    by_then : (t : Then) → LeadsThere plan setup v here.spot.state s (after s a) t → IsSettled v w t k
+    fold_settled : (key fold : Key) → HaveKeys plan setup v (after s a) key fold → IsFoldNoted v w key fold here.spot.state k
+        → IsNoted plan setup v w here.spot.state (after s a) k
+    fold_settled key fold x e =
+        let n = renamed x.renaming (after s a) in
+        let keeps = key_grown v w e.grows fold n x.folded in
+        fold_noted plan setup begun v v w here.spot.state k (after s a) n key x.renaming x.fits there x.folds refl
+        (is.folds x.folds) (adds_none v) x.keeps e.grows e.grows e.there e.other (λ t has kind. e.alike t n has keeps kind)
+        (λ j high low.
+        let one = e.one j high low in
+        (one.0, one.1, record { key = fold; is = one.2; keeps = keeps })) e.folds
+
+    by_then : (t : Then) → LeadsThere plan setup v here.spot.state s (after s a) t → IsSettled v w here.spot.state t k
         → IsNoted plan setup v w here.spot.state (after s a) k
     by_then (then.Known j) x e =
         subst (λ (u : SpaceValue). IsNoted plan setup v u here.spot.state (after s a) k) (sym e.1)
         (subst (λ (i : ℕ). IsNoted plan setup v v here.spot.state (after s a) i) (sym e.0) (known_noted j x))
-    by_then (then.New key) x e = key_noted key x e
+    by_then (then.New key) x e = key_noted key x.0 x.1 e
+    by_then (then.Fold key fold) x e = fold_settled key fold x e
 
     same_then : (f : Finding) → f.state ≡ here.spot.state → slice_get plan.acts.items f.act ≡ Some a → (x : IsFound plan setup v f)
         → (x.state ≡ s) × (x.act ≡ a)
@@ -175,7 +204,8 @@ module _ (plan : Plan) (setup : Setup) where
     )
 
     pub found_noted : (f : Finding) → f.state ≡ here.spot.state → slice_get plan.acts.items f.act ≡ Some a
-        → IsFound plan setup v f → IsSettled v w f.then k → IsNoted plan setup v w here.spot.state (after s a) k
+        → IsFound plan setup v f → IsSettled v w here.spot.state f.then k
+        → IsNoted plan setup v w here.spot.state (after s a) k
     found_noted f left doing x e =
         let same = same_then f left doing x in
         by_then f.then
@@ -189,9 +219,65 @@ module _ (plan : Plan) (setup : Setup) where
         let same = same_then f left doing x in
         x.event ∙ ap (λ (b : Act). (next x.state b).1) same.1 ∙ ap (λ (z : Machine). (next z a).1) same.0
 
-  pub settled_grows : (v w : SpaceValue) (t : Then) (k : ℕ) → IsSettled v w t k → Grows v w
-  settled_grows v w (then.Known j) k e = subst (λ (u : SpaceValue). Grows v u) (sym e.1) (grows_self v)
-  settled_grows v w (then.New key) k e = e.grows
+  pub settled_grows : (v w : SpaceValue) (left : ℕ) (t : Then) (k : ℕ) → IsSettled v w left t k → Grows v w
+  settled_grows v w left (then.Known j) k e = subst (λ (u : SpaceValue). Grows v u) (sym e.1) (grows_self v)
+  settled_grows v w left (then.New key) k e = e.grows
+  settled_grows v w left (then.Fold key fold) k e = e.grows
+
+  -- a state that is left, and to which an act led that a helper made, may get a fold
+  may_fold : (v : SpaceValue) (left : ℕ) (s m : Machine) (t : Then) → left < length v.keys
+      → (plan.folds ≡ true → HaveFolds plan setup v) → LeadsThere plan setup v left s m t → MaySettle v left t
+  may_fold v left s m (then.Known k) low folds x = tt
+  may_fold v left s m (then.New key) low folds x = tt
+  may_fold v left s m (then.Fold key fold) low folds x = (low, (folds x.folds).count)
+
+  pub may_settle : (v : SpaceValue) (left : ℕ) (f : Finding) → f.state ≡ left → (plan.folds ≡ true → HaveFolds plan setup v)
+      → IsFound plan setup v f → MaySettle v left f.then
+  may_settle v left f same folds x =
+      subst (λ (i : ℕ). MaySettle v i f.then) same
+      (may_fold v f.state x.state (after x.state x.act) f.then (slice_get_within v.keys f.state x.keeps.key x.keeps.is) folds x.then)
+
+  -- a state other than the one that is left, whose fold is that of the machine
+  pub known_by_fold : (v : SpaceValue) (left k : ℕ) (s m n : Machine) (key : Key) (r : Renaming) → IsBegun plan setup
+      → Fits plan setup r → n ≡ renamed r m → IsReached plan setup m → plan.folds ≡ true → HaveFolds plan setup v
+      → KeyKeeps v.parts v.shareds key m → k < length v.folds → k ≢ left
+      → ((t : Machine) → Folds v k t → IsSameKind t n → AreAlike t n) → IsKnown plan setup v left s m k
+  known_by_fold v left k s m n key r begun fits is reached folds have keeps low other alike =
+      let count = have.count in
+      let there : k < length v.keys = omega (arith, low, count) in
+      let it = have.each k there in
+      let grows = grows_self v in
+      let noted = fold_noted plan setup begun v v v left k m n key r fits reached folds is have (adds_none v) keeps grows grows
+      there other alike (λ j high under. absurd (omega (arith, high, under))) count in
+      record {
+        like = record {
+          state = it.state;
+          keeps = it.keeps;
+          reached = it.reached;
+          stands = noted.kept it.state it.keeps it.reached;
+        };
+        stays = λ same. absurd (other same);
+      }
+
+  -- the state that is left, and a schedule to it if there is one
+  pub is_here : (v : SpaceValue) (here : Here) (k : ℕ) → IsBegun plan setup → here.spot.state ≡ k → IsGood plan setup v k
+      → slice_get v.keys k ≡ Some here.spot.key → (plan.folds ≡ true → HaveFolds plan setup v)
+      → IfSome here.way (λ way. AreMoves plan.extras setup way.items × Keeps v k (state_after plan setup way.items))
+      → IsHere plan setup v here
+  is_here v here k begun same good key folds way = record {
+    begun = begun;
+    state = good.state;
+    keeps = subst (λ (i : ℕ). Keeps v i good.state) (sym same) good.keeps;
+    key = subst (λ (i : ℕ). slice_get v.keys i ≡ Some here.spot.key) (sym same) key;
+    reached = good.reached;
+    folds = folds;
+    moves = if_some here.way (λ w. AreMoves plan.extras setup w.items × Keeps v k (state_after plan setup w.items))
+        (λ w. AreMoves plan.extras setup w.items) (λ w x. x.0) way;
+    leads = if_some here.way (λ w. AreMoves plan.extras setup w.items × Keeps v k (state_after plan setup w.items))
+        (λ w. good.state ≡ state_after plan setup w.items)
+        (λ w x. same_state laws plan setup begun v k good.state (state_after plan setup w.items) good.keeps x.1
+        good.reached (record { acts = w.items; moves = x.0; there = refl })) way;
+  }
 
   -- what a helper finds of an act on a state
   module _ (begun : IsBegun plan setup) (v : SpaceValue) (left : ℕ) (s m : Machine) (has : Keeps v left s)

@@ -16,6 +16,7 @@ use Rattle.lk_reach.specs.Explored.{AreColumns, IsExplored, IsOrigin, IsSuch, Is
 use Rattle.lk_reach.specs.Reach.{AreMoves, IsBegun, IsReached, MakesRow, after, bare, cpus_of, run, start_of, state_after}
 use Rattle.lk_reach.specs.Space.{SpaceValue, Keeps}
 use Rattle.lk_reach.specs.Kinds.{kind_value}
+use Rattle.lk_reach.specs.Helped.{HaveWays}
 use Rattle.lk_reach.specs.Path.{AreLow, IsBefore, IsPath}
 use Rattle.lk_reach.specs.Told.{IsGraph, IsNever, IsShortestToEvent, IsShortestToRow, IsWay, IsWhole, Tells}
 use Rattle.lk_rows.specs.declared.parts.Pc.{Pc}
@@ -234,21 +235,26 @@ module _ (laws : Laws) (g : Graph) (is : IsGraph g) where
       (λ i o at few. let low = slice_get_within g.book.origins i o at in omega (arith, low, count, whole)) in
       none told.origin told.is
 
--- the acts by which the state that is left was met
-pub way_of : (plan : Plan) (m : Machine) (v : SpaceValue) (b : Book) (k : ℕ) (acts : List Act) → IsBegun plan m.setup
+-- the acts by which states were met
+pub ways_of : (plan : Plan) (m : Machine) (v : SpaceValue) (b : Book) (k : ℕ) → IsBegun plan m.setup
     → IsExplored plan m.setup v b k → AreColumns b (length plan.acts.items) k 0 → length m.cpus ≤ 8 → IsSuch m.setup m
-    → k < length v.keys → IsPath plan b 0 k acts
-    → IsWay (record { space = v; plan = plan; book = b; machine = m; cpus = cpus_of m.setup; left = k }) k acts
-way_of plan m v b k acts begun x columns few such there path =
+    → k ≤ length v.keys → HaveWays plan b v m.setup
+ways_of plan m v b k begun x columns few such within =
     let g : Graph = record { space = v; plan = plan; book = b; machine = m; cpus = cpus_of m.setup; left = k } in
     let cpus = such.cpus in
     let is : IsGraph g = record {
       begun = begun;
       explored = x;
       columns = columns;
-      within = omega (arith, there);
+      within = within;
       cpus = refl;
       few = omega (arith, few, cpus);
       such = such;
     } in
-    way_to laws g is k acts there (path_leads laws g is acts 0 k path)
+    record {
+      low = are_low plan m.setup v b k x;
+      count = x.count;
+      ways = λ j acts there path.
+          let way = way_to laws g is j acts there (path_leads laws g is acts 0 j path) in
+          (way.moves, way.leads);
+    }

@@ -13,10 +13,10 @@ use Rattle.lk_reach.specs.declared.key.Key.{Key}
 use Rattle.lk_reach.specs.declared.plan.Extras.{Extras}
 use Rattle.lk_reach.specs.declared.plan.Plan.{Plan}
 use Rattle.lk_reach.specs.Explored.{IsSuch}
-use Rattle.lk_reach.specs.Folded.{Fits, HasFold, HaveFolds, IsHere, IsNoted, StandsFor}
+use Rattle.lk_reach.specs.Folded.{Fits, HasFold, HaveFolds, IsBehind, IsHere, IsNoted, IsRenumbered, StandsFor}
 use Rattle.lk_reach.specs.Reach.{AreMoves, IsBegun, IsMove, IsReached, after, bare, run, start_of}
 use Rattle.lk_reach.specs.Space.{AddsParts, Folds, Grows, IsSameKind, Keeps, KeyKeeps, SpaceValue}
-use Rattle.lk_reach.proofs.Closed.{reached_start, reached_such, run_bare, same_state}
+use Rattle.lk_reach.proofs.Closed.{reached_start, reached_such, reached_then, run_bare, same_state}
 use Rattle.lk_reach.proofs.Folded.{after_renamed, laws, not_both, own_fits, own_numbers, own_same, reached_renamed, stands_alike, stands_back, stands_then}
 use Rattle.lk_reach.proofs.Kept.{front_at, key_grown, keeps_grown}
 
@@ -120,6 +120,19 @@ module _ (plan : Plan) (setup : Setup) (begun : IsBegun plan setup) where
     moves = h.moves;
     leads = h.leads;
   }
+
+  -- the machine behind an act on the state that is left is reached
+  pub reached_behind : (v : SpaceValue) (here : Here) (a : Act) (m : Machine) → IsHere plan setup v here
+      → IsMove plan.extras setup a → IsBehind plan setup v here a m → IsReached plan setup m
+  reached_behind v here a m h move behind =
+      subst (λ (z : Machine). IsReached plan setup z) (sym (behind h.state h.keeps h.reached))
+      (reached_then laws plan setup begun h.state a h.reached move)
+
+  pub renumbered_such : (m n : Machine) → IsReached plan setup m → IsRenumbered plan setup m n → IsSuch setup n
+  renumbered_such m n reached it =
+      subst (λ (z : Machine). IsSuch setup z) (sym it.is)
+      (reached_such laws plan setup begun (renamed it.renaming m)
+      (reached_renamed plan setup begun it.renaming it.fits m reached))
 
   -- the first state is its own fold
   pub first_folds : (v : SpaceValue) (m : Machine) → m ≡ bare (start_of plan setup) → length v.keys ≡ 1 → Keeps v 0 m

@@ -4,7 +4,8 @@
 ghost use Rattle.std.specs.Prelude.{◌≡◌, ◌≢◌, ◌<◌, ◌≤◌, IfOk, OnOk, IfSome, ℕ, Some, length, slice_get, true};
 ghost use Rattle.lk_rows.specs.Machine.{Machine as MachineValue};
 ghost use Rattle.lk_idle.specs.Alike.{AreAlike};
-ghost use Rattle.lk_reach.specs.Space.{AddsFold, Folds, Grows, IsFolded, IsFoldNumbered, IsFoldOf, IsSameKind};
+ghost use Rattle.lk_reach.specs.Helped.{IsFoldNoted};
+ghost use Rattle.lk_reach.specs.Space.{AddsFold, Folds, Grows, IsFolded, IsFoldNumbered, IsFoldOf, IsSameKind, KeyKeeps};
 
 use crate::key::Key;
 use crate::space::Space;
@@ -77,6 +78,31 @@ impl Space {
         }
     }
 
+    /// The number of a state, other than the one that is left, whose fold has this key, or differs from
+    /// that one in dead registers alone, if it was met.
+    pub(crate) fn known_fold(&self, fold: &Key, left: usize) -> Option<u32>
+        ensures there { IfSome result (λ k. k < length self.now.folds) }
+        ensures other { IfSome result (λ k. k ≢ left) }
+        ensures alike { IfSome result (λ k. (s t : MachineValue) → Folds self.now k s
+            → KeyKeeps self.now.parts self.now.shareds fold.now t → IsSameKind s t → AreAlike s t) }
+    {
+        self.formed();
+        let number = self.find_fold(fold, left)?;
+        Some(number)
+    }
+
+    /// The number of the state with this key, whose fold has that one, or of a state other than the one
+    /// that is left, whose fold differs from it in dead registers alone. It gets one if there is none.
+    pub(crate) fn note_folded(&mut self, key: &Key, fold: &Key, left: usize) -> Result<u32, Memory>
+        requires left { left < length self.old.keys }
+        requires folds { length self.old.folds ≡ length self.old.keys }
+        ensures { IfOk result (λ k. IsFoldNoted self.old self.new key.now fold.now left k) }
+    {
+        let number = self.number_fold(key, fold, left)?;
+        self.formed();
+        Ok(number)
+    }
+
     /// The number of a state with this key, of which the machine is the fold, or of one whose fold
     /// differs from this machine in dead registers alone, and that is not the one that is left. It
     /// gets one if there is none.
@@ -101,8 +127,7 @@ impl Space {
         ensures machine { OnOk result (machine.new ≡ machine.old) }
     {
         let fold = self.key(machine, left)?;
-        let number = self.number_fold(key, &fold, left)?;
-        self.formed();
+        let number = self.note_folded(key, &fold, left)?;
         Ok(number)
     }
 

@@ -5,13 +5,15 @@ use Rattle.lk_names.specs.declared.events.Act.{Act}
 use Rattle.lk_names.specs.declared.events.Act.TheVariants as act
 use Rattle.lk_rows.specs.declared.setup.Setup.{Setup}
 use Rattle.lk_rows.specs.Machine.{Machine}
-use Rattle.lk_reach.specs.Explored.{IsSuch, OnlyMoves}
+use Rattle.lk_reach.specs.Explored.{IsGood, IsSuch, OnlyMoves}
 use Rattle.lk_reach.specs.Folded.{IsHere, IsNoted}
 use Rattle.lk_reach.specs.Helped.{AreHelpers}
-use Rattle.lk_reach.specs.Reach.{IsReached, after, state_after}
+use Rattle.lk_reach.specs.Path.{IsPath}
+use Rattle.lk_reach.specs.Reach.{AreMoves, IsReached, after, state_after}
 use Rattle.lk_reach.specs.Space.{Keeps}
 use Rattle.lk_reach.specs.Steps.{AreMade}
 use Rattle.lk_reach.proofs.Kept.{front_at, keeps_grown}
+use Rattle.lk_reach.proofs.apart.Helped.{if_some, is_here}
 use Rattle.lk_reach.proofs.apart.Leading as leading
 use Rattle.lk_reach.proofs.Left as left
 use Rattle.lk_reach.proofs.Columns as columns
@@ -37,16 +39,18 @@ loop-number-init g c =
     let b = c.args.book.now in
     let k = c.args.state in
     let e = c.in_ok-here.ensures in
+    let there = c.requires.there in
+    let ways = leading.ways_of p c.args.crew.now.machine v b k c.requires.begun c.requires.explored c.requires.columns
+    c.requires.few c.requires.such (omega (arith, there)) in
     record {
       such = c.requires.such;
       same = refl;
       explored = c.requires.explored;
       half = left.half_start p z v b k p.acts.items c.requires.explored c.requires.there;
       columns = c.requires.columns;
-      moves = λ folds. (leading.way_of p c.args.crew.now.machine v b k c.in_ok-here.here.way.items c.requires.begun
-          c.requires.explored c.requires.columns c.requires.few c.requires.such c.requires.there (e.way folds)).moves;
-      leads = λ folds. (leading.way_of p c.args.crew.now.machine v b k c.in_ok-here.here.way.items c.requires.begun
-          c.requires.explored c.requires.columns c.requires.few c.requires.such c.requires.there (e.way folds)).leads;
+      way = if_some c.in_ok-here.here.way (λ w. IsPath p b 0 k w.items)
+          (λ w. AreMoves p.extras z w.items × Keeps v k (state_after p z w.items))
+          (λ w path. ways.ways k w.items there path) e.way;
       helpers = c.requires.helpers;
       made = c.requires.made;
       key = e.key;
@@ -68,24 +72,14 @@ pub lead-requires-clause-here : goal.lead-requires-clause-here
 lead-requires-clause-here g c κs outlives =
     let inv = c.loop-number.invariant in
     let z = c.args.crew.now.machine.setup in
-    let laws : closed.Laws = record { runs = c.runs_keep.ensures.run; setup = c.acts_change_little.ensures.setup } in
     let p = c.args.plan.now in
     let v = c.loop-number.space in
     let half = inv.half in
     let here = c.in_ok-here.here in
     let state = c.in_ok-here.ensures.state in
-    let is : IsHere p z v here = record {
-      begun = c.requires.begun;
-      state = half.state;
-      keeps = subst (λ (h : ℕ). Keeps v h half.state) (sym state) half.keeps;
-      key = subst (λ (h : ℕ). slice_get v.keys h ≡ Some here.spot.key) (sym state) inv.key;
-      reached = half.reached;
-      folds = inv.explored.folds;
-      moves = inv.moves;
-      leads = λ folds. closed.same_state laws p z c.requires.begun v c.args.state half.state (state_after p z here.way.items)
-          half.keeps (inv.leads folds) half.reached (record { acts = here.way.items; moves = inv.moves folds; there = refl });
-    } in
-    subst (λ (q : Setup). IsHere p q v here) (sym inv.same) is
+    let good : IsGood p z v c.args.state = record { state = half.state; keeps = half.keeps; reached = half.reached } in
+    subst (λ (q : Setup). IsHere p q v here) (sym inv.same)
+    (is_here p z v here c.args.state c.requires.begun state good inv.key inv.explored.folds inv.way)
 
 pub lead-requires-clause-act : goal.lead-requires-clause-act
 lead-requires-clause-act g c κs outlives =
@@ -155,11 +149,12 @@ loop-number-preserved g c =
       explored = left.explored_then p z laws c.requires.begun v w b d k n a made inv.half inv.explored inv.columns;
       half = left.half_then p z laws c.requires.begun v w b d k n a made inv.half inv.explored inv.columns;
       columns = left.columns_then p z laws c.requires.begun v w b d k n a made inv.half inv.explored inv.columns;
-      moves = inv.moves;
-      leads = λ folds.
+      way =
           let half = inv.half in
-          keeps_grown v w (noted half.state half.keeps half.reached).grows k (state_after p z c.in_ok-here.here.way.items)
-          (inv.leads folds);
+          if_some c.in_ok-here.here.way (λ way. AreMoves p.extras z way.items × Keeps v k (state_after p z way.items))
+          (λ way. AreMoves p.extras z way.items × Keeps w k (state_after p z way.items))
+          (λ way x.
+          (x.0, keeps_grown v w (noted half.state half.keeps half.reached).grows k (state_after p z way.items) x.1)) inv.way;
       key =
           let half = inv.half in
           front_at v.keys w.keys (noted half.state half.keeps half.reached).grows.keys k c.in_ok-here.here.spot.key inv.key;

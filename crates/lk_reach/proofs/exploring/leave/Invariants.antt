@@ -1,5 +1,5 @@
-use Rattle.std.proofs.Common.{◌≡◌, Some, length, true}
-use Rattle.std.specs.Prelude.{slice_get}
+use Rattle.std.proofs.Common.{◌≡◌, Some, length}
+use Rattle.std.specs.Prelude.{IfSome, slice_get}
 use Rattle.lk_reach.specs.Explored.{AreColumns, IsSuch, IsExplored, IsHalfLeft}
 use Rattle.lk_reach.specs.Helped.{AreHelpers}
 use Rattle.lk_reach.specs.Reach.{AreMoves, state_after}
@@ -15,8 +15,8 @@ invariant-loop-number g l = record {
   explored : IsExplored l.plan l.fn.crew.machine.setup l.space l.book l.state;
   half : IsHalfLeft l.plan l.fn.crew.machine.setup l.space l.book l.state l.plan.acts.items l.number;
   columns : AreColumns l.book (length l.plan.acts.items) l.state l.number;
-  moves : l.plan.folds ≡ true → AreMoves l.plan.extras l.fn.crew.machine.setup l.here.way.items;
-  leads : l.plan.folds ≡ true → Keeps l.space l.state (state_after l.plan l.fn.crew.machine.setup l.here.way.items);
+  way : IfSome l.here.way (λ way. AreMoves l.plan.extras l.fn.crew.machine.setup way.items
+      × Keeps l.space l.state (state_after l.plan l.fn.crew.machine.setup way.items));
   key : slice_get l.space.keys l.state ≡ Some l.here.spot.key;
   made : AreMade l.fn.crew.machine.setup l.space l.crew.steps.made.items;
   helpers : AreHelpers l.plan l.fn.crew.machine.setup l.space l.crew.helpers.list.items;

@@ -4,10 +4,11 @@ use Rattle.lk_rows.specs.declared.setup.Setup.{Setup}
 use Rattle.lk_rows.specs.Machine.{Machine}
 use Rattle.lk_reach.specs.declared.steps.Steps.{Steps}
 use Rattle.lk_reach.specs.Explored.{IsExplored, IsSuch}
-use Rattle.lk_reach.specs.Helped.{AreHelpers, MayLook}
+use Rattle.lk_reach.specs.Helped.{AreHelpers, HaveWays, MayLook}
 use Rattle.lk_reach.specs.Reach.{IsBegun}
 use Rattle.lk_reach.specs.Space.{SpaceValue}
 use Rattle.lk_reach.specs.Steps.{AreMade}
+use Rattle.lk_reach.proofs.apart.Leading.{ways_of}
 use Rattle.lk_reach.proofs.exploring.leave_all.Goals as goal
 
 pub look_ahead-requires-clause-may : goal.look_ahead-requires-clause-may
@@ -22,8 +23,19 @@ look_ahead-requires-clause-may g c κs outlives =
       begun = c.requires.begun;
       moves = inv.explored.acts.only;
       good = inv.explored.good;
+      folds = inv.explored.folds;
     } in
     subst (λ (q : Setup). MayLook p v q) (sym inv.same) may
+
+pub look_ahead-requires-clause-ways : goal.look_ahead-requires-clause-ways
+look_ahead-requires-clause-ways g c κs outlives =
+    let inv = c.loop-state.invariant in
+    let p = c.args.plan.now in
+    let v = c.loop-state.space in
+    let b = c.loop-state.book in
+    subst (λ (q : Setup). HaveWays p b v q) (sym inv.same)
+    (ways_of p c.args.crew.now.machine v b c.loop-state.state c.requires.begun inv.explored inv.columns c.requires.few
+    c.requires.such inv.within)
 
 pub look_ahead-requires-clause-helpers : goal.look_ahead-requires-clause-helpers
 look_ahead-requires-clause-helpers g c κs outlives =

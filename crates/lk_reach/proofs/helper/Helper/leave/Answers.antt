@@ -1,14 +1,23 @@
-use Rattle.std.proofs.Common.{◌∙◌, List, sym, subst}
+use Rattle.std.proofs.Common.{◌∙◌, List, arith, sym, subst}
 use Rattle.std.specs.Prelude.{IfSome}
 use Rattle.lk_rows.specs.declared.setup.Setup.{Setup}
 use Rattle.lk_reach.specs.Explored.{IsSuch}
 use Rattle.lk_reach.specs.Helped.{IsFound, MayKeep, MayLook}
-use Rattle.lk_reach.specs.Steps.{AreMade, IsSpot}
+use Rattle.lk_reach.specs.Folded.{IsHere}
+use Rattle.lk_reach.specs.Path.{IsPath}
+use Rattle.lk_reach.specs.Reach.{AreMoves, state_after}
+use Rattle.lk_reach.specs.Space.{Keeps}
+use Rattle.lk_reach.specs.Steps.{AreMade}
 use Rattle.lk_reach.specs.declared.found.Finding.{Finding}
-use Rattle.lk_reach.proofs.Closed as closed
-use Rattle.lk_reach.proofs.Folded as folded
 use Rattle.lk_reach.proofs.apart.Helped as helped
 use Rattle.lk_reach.proofs.helper.Helper.leave.Goals as goal
+
+pub here_at-requires : goal.here_at-requires
+here_at-requires c =
+    let there = c.requires.there in
+    let ways = c.requires.sent.1 in
+    let count = ways.count in
+    record { low = ways.low; there = omega (arith, there, count); met = there }
 
 pub find-found-requires-clause-ready : goal.find-found-requires-clause-ready
 find-found-requires-clause-ready c =
@@ -16,28 +25,25 @@ find-found-requires-clause-ready c =
     let back = sym inv.same in
     let v = c.args.space.now in
     record {
-      may = subst (λ (q : Setup). MayLook c.args.plan.now v q) back c.requires.ready.may;
+      may = subst (λ (q : Setup). MayLook c.args.plan.now v q) back c.requires.sent.0.may;
       such = subst (λ (q : Setup). IsSuch q c.loop-act.self.machine) back inv.such;
       made = subst (λ (q : Setup). AreMade q v c.loop-act.self.steps.made.items) back inv.made;
     }
 
-pub find-found-requires-clause-spot : goal.find-found-requires-clause-spot
-find-found-requires-clause-spot c =
-    let inv = c.loop-act.invariant in
+pub find-found-requires-clause-here : goal.find-found-requires-clause-here
+find-found-requires-clause-here c =
     let p = c.args.plan.now in
-    let v = c.args.space.now in
     let z = c.args.self.now.machine.setup in
-    let may = c.requires.ready.may in
-    let g = may.good c.args.state c.requires.there in
-    subst (λ (q : Setup). IsSpot q v (record { state = c.args.state; key = c.key_at-key.result; hash = c.hash_of-hash.result })) (sym inv.same) (record {
-      stepped = record {
-        state = g.state;
-        keeps = g.keeps;
-        such = closed.reached_such folded.laws p z may.begun g.state g.reached;
-        sound = closed.reached_sound folded.laws p z may.begun g.state g.reached;
-      };
-      is = c.key_at-key.ensures;
-    })
+    let v = c.args.space.now in
+    let k = c.args.state in
+    let may = c.requires.sent.0.may in
+    let here = c.in-Ok.here in
+    let e = c.in-Ok.ensures in
+    subst (λ (q : Setup). IsHere p q v here) (sym c.loop-act.invariant.same)
+    (helped.is_here p z v here k may.begun e.state (may.good k c.requires.there) e.key may.folds
+    (helped.if_some here.way (λ w. IsPath p c.args.book.now 0 k w.items)
+    (λ w. AreMoves p.extras z w.items × Keeps v k (state_after p z w.items))
+    (λ w path. c.requires.sent.1.ways k w.items c.requires.there path) e.way))
 
 pub loop-act-preserved : goal.loop-act-preserved
 loop-act-preserved c =

@@ -1,19 +1,21 @@
 use Rattle.std.proofs.Common.{◌∙◌, sym, subst}
 use Rattle.lk_rows.specs.declared.setup.Setup.{Setup}
 use Rattle.lk_reach.specs.Explored.{IsSuch}
-use Rattle.lk_reach.specs.Helped.{AreFound, IsHelper, MayLook}
+use Rattle.lk_reach.specs.Helped.{AreFound, HaveWays, IsHelper, MayLook}
 use Rattle.lk_reach.specs.Steps.{AreMade}
 use Rattle.lk_reach.proofs.helper.Helper.look.Goals as goal
 
-pub leave-requires-clause-ready : goal.leave-requires-clause-ready
-leave-requires-clause-ready c =
+pub leave-requires-clause-sent : goal.leave-requires-clause-sent
+leave-requires-clause-sent c =
     let inv = c.loop-state.invariant in
-    let back = sym inv.same in
-    record {
-      may = subst (λ (q : Setup). MayLook c.args.plan.now c.args.space.now q) back c.requires.ready.may;
-      such = subst (λ (q : Setup). IsSuch q c.loop-state.self.machine) back inv.such;
-      made = subst (λ (q : Setup). AreMade q c.args.space.now c.loop-state.self.steps.made.items) back inv.made;
-    }
+    let back = sym inv.same in (
+      record {
+        may = subst (λ (q : Setup). MayLook c.args.plan.now c.args.space.now q) back c.requires.sent.0.may;
+        such = subst (λ (q : Setup). IsSuch q c.loop-state.self.machine) back inv.such;
+        made = subst (λ (q : Setup). AreMade q c.args.space.now c.loop-state.self.steps.made.items) back inv.made;
+      },
+      subst (λ (q : Setup). HaveWays c.args.plan.now c.args.book.now c.args.space.now q) back c.requires.sent.1,
+    )
 
 pub leave-requires-clause-found : goal.leave-requires-clause-found
 leave-requires-clause-found c =

@@ -3,12 +3,11 @@ use Rattle.lk_rows.specs.Machine.{CpuState}
 use Rattle.lk_machine.specs.Parts.{SharedValue}
 use Rattle.lk_reach.specs.declared.key.Key.{Key}
 use Rattle.lk_reach.specs.Space.{KeyKeeps}
-use Rattle.lk_reach.proofs.Formed.{fold_alike}
 use Rattle.lk_reach.proofs.Left.{grows_then}
 use Rattle.lk_reach.proofs.space.Space.note_fold.Goals as goal
 
-pub number_fold-requires : goal.number_fold-requires
-number_fold-requires c =
+pub note_folded-requires : goal.note_folded-requires
+note_folded-requires c =
     let made = c.in_ok-fold.ensures in
     let keys = ap (λ (ks : List Key). length ks) made.states.keys in
     let folds = ap (λ (ks : List Key). length ks) made.states.folds in
@@ -21,7 +20,7 @@ returns c =
     let m = c.args.machine.now in
     let u = c.args.self.now in
     let w = c.key.new.self in
-    let z = c.number_fold.new.self in
+    let z = c.note_folded.new.self in
     let fold = c.in_ok-fold.fold in
     let made = c.in_ok-fold.ensures in
     let e = c.in_ok-number.ensures in
@@ -33,11 +32,11 @@ returns c =
     record {
       there = e.there;
       other = e.other;
-      alike = λ s has kind. fold_alike z k fold s m c.formed.ensures e.found keeps has kind;
+      alike = λ s has kind. e.alike s m has keeps kind;
       grows = grows_then u w z made.states.grows e.grows;
       one = λ j high low.
           let one = e.one j (omega (arith, high, size)) low in
           (one.0, one.1, record { key = fold; is = one.2; keeps = keeps });
-      folds = e.count;
+      folds = e.folds;
       machine = made.machine;
     }

@@ -1,0 +1,77 @@
+use Rattle.std.proofs.Common.{ℕ, arith, subst, sym}
+use Rattle.lk_reach.specs.Explored.{IsGood}
+use Rattle.lk_reach.specs.Space.{Keeps}
+use Rattle.lk_reach.proofs.apart.Helped as helped
+use Rattle.lk_reach.proofs.apart.Noted as noted
+use Rattle.lk_reach.proofs.folding.fold_seen.Goals as goal
+
+pub returns-in-Some-clause-leads : goal.returns-in-Some-clause-leads
+returns-in-Some-clause-leads c s has reached =
+    let p = c.args.plan.now in
+    let z = c.args.machine.now.setup in
+    let v = c.args.space.now in
+    let h = c.requires.here in
+    let m = c.args.machine.now in
+    let k = c.args.here.now.spot.state in
+    let e = c.in-Some.ensures in
+    let good : IsGood p z v k = record { state = h.state; keeps = h.keeps; reached = h.reached } in
+    helped.is_known p z h.begun v k s m has reached c.requires.such c.in-Some.number
+    (subst (λ (i : ℕ). IsGood p z v i) (sym e.same) good)
+    (λ t keeps kind. e.alike t m (subst (λ (i : ℕ). Keeps v i t) e.same keeps) c.in_ok-key.ensures kind)
+
+pub key_seen-requires-2 : goal.key_seen-requires-2
+key_seen-requires-2 c =
+    let p = c.args.plan.now in
+    let z = c.args.machine.now.setup in
+    let h = c.requires.here in
+    let m = c.args.machine.now in
+    let reached = noted.reached_behind p z h.begun c.args.space.now c.args.here.now c.args.doing m h c.requires.moves c.requires.behind in
+    let cpus = (noted.renumbered_such p z h.begun m c.become_fold.new.machine reached c.become_fold.ensures).cpus in
+    let before = c.requires.such.cpus in
+    let few = c.requires.few in
+    record { few = omega (arith, cpus, before, few) }
+
+pub returns-in_err-fold-clause-such : goal.returns-in_err-fold-clause-such
+returns-in_err-fold-clause-such c =
+    let p = c.args.plan.now in
+    let z = c.args.machine.now.setup in
+    let h = c.requires.here in
+    let m = c.args.machine.now in
+    noted.renumbered_such p z h.begun m c.become_fold.new.machine
+    (noted.reached_behind p z h.begun c.args.space.now c.args.here.now c.args.doing m h c.requires.moves c.requires.behind)
+    c.become_fold.ensures
+
+pub returns-in-Some-known_fold-clause-leads : goal.returns-in-Some-known_fold-clause-leads
+returns-in-Some-known_fold-clause-leads c s has reached =
+    let p = c.args.plan.now in
+    let z = c.args.machine.now.setup in
+    let v = c.args.space.now in
+    let h = c.requires.here in
+    let m = c.args.machine.now in
+    let n = c.become_fold.new.machine in
+    let it = c.become_fold.ensures in
+    let e = c.in-Some-known_fold.ensures in
+    helped.known_by_fold p z v c.args.here.now.spot.state c.in-Some-known_fold.number s m n c.in_ok-key.key it.renaming h.begun
+    it.fits it.is (noted.reached_behind p z h.begun v c.args.here.now c.args.doing m h c.requires.moves c.requires.behind)
+    c.requires.folds (h.folds c.requires.folds) c.in_ok-key.ensures e.there e.other
+    (λ t folds kind. e.alike t n folds c.in_ok-fold.ensures kind)
+
+pub returns-in-Some-known_fold-clause-such : goal.returns-in-Some-known_fold-clause-such
+returns-in-Some-known_fold-clause-such c =
+    let p = c.args.plan.now in
+    let z = c.args.machine.now.setup in
+    let h = c.requires.here in
+    let m = c.args.machine.now in
+    noted.renumbered_such p z h.begun m c.become_fold.new.machine
+    (noted.reached_behind p z h.begun c.args.space.now c.args.here.now c.args.doing m h c.requires.moves c.requires.behind)
+    c.become_fold.ensures
+
+pub returns-in-None-clause-such : goal.returns-in-None-clause-such
+returns-in-None-clause-such c =
+    let p = c.args.plan.now in
+    let z = c.args.machine.now.setup in
+    let h = c.requires.here in
+    let m = c.args.machine.now in
+    noted.renumbered_such p z h.begun m c.become_fold.new.machine
+    (noted.reached_behind p z h.begun c.args.space.now c.args.here.now c.args.doing m h c.requires.moves c.requires.behind)
+    c.become_fold.ensures
