@@ -5,18 +5,39 @@ from collections import defaultdict
 
 # A name is declared at the left edge or, in a module with parameters, two columns in. Lines of its equations follow.
 DECLARED = re.compile(r"(?:  (?!pub [^\s:]+ ?:))?((?:(?:abbrev|unfoldable|pub|record|data) )*)([^\s:(){}]+)(?: [({].*?)? ?:")
-USE = re.compile(r"\buse (?:pub )?Rattle\.([\w-]+(?:\.[\w-]+)*)(?:\.\{([^}]*)\}| as (\w+))?")
+USE = re.compile(r"\buse (?:pub )?Rattle\.([\w-]+(?:\.[\w-]+)*)(?:\.\{((?:[^{}]|\{[^}]*\})*)\}| as (\w+))?")
+# Between the braces of an import: a path with braces of its own, or a name, which may have a path before it.
+ITEM = re.compile(r"\s*(?:([\w.-]+)\.\{([^}]*)\}|([^,{}]+))")
 WORD = re.compile(r"[^\s(){}\[\],;:]+")
 LEMMA = re.compile(r"^(?:  )?(?:pub )?[^\s:]+ : (\S+)$", re.M)
 
 
-def imports_in(text):
+def names_in(module, braces):
+    """Each name between the braces of an import, with the module that it comes from, and the word that it has here."""
+    for path, inner, item in ITEM.findall(braces):
+        for name in inner.split(",") if path else [item]:
+            there, _, here = name.strip().partition(" as ")
+            front, _, last = there.rpartition(".")
+            if there:
+                yield ".".join(filter(None, (module, path, front))), last, here or last
+
+
+def passed_on(texts):
+    """Where a prelude has each name from that it passes on (`pub use`): pairs of a module and a name."""
+    found = {}
+    for path, text in texts.items():
+        for line in re.findall(r"(?m)^(?:unfoldable )?pub use Rattle.*", text):
+            for module, names, _ in USE.findall(line):
+                found.update({(module_of(path), here): (there, name) for there, name, here in names_in(module, names)})
+    return found
+
+
+def imports_in(text, passed):
     """What each word of a file may mean that comes from elsewhere: pairs of a module and the name there, or of a module and none."""
     found = defaultdict(set)
     for module, names, alias in USE.findall(text):
-        for name in filter(None, (it.strip() for it in names.split(","))):
-            there, _, here = name.partition(" as ")
-            found[here or there].add((module, there))
+        for there, name, here in names_in(module, names):
+            found[here].add(passed.get((there, name), (there, name)))
         if not names:
             found[alias or module.rpartition(".")[2]].add((module, None))
     return found
@@ -43,14 +64,15 @@ class Reach:
         self.files, self.uses = {}, {}
         self.claimed, self.cited, self.stated = set(), set(), set()
         texts = {path: re.sub(r"(?m)(?:^|(?<=\s))(?:--|//).*", "", text) for path, text in sources.text.items()}
+        passed = passed_on(texts)
         specs = {path: definitions_in(text) for path, text in texts.items() if "/specs/" in path}
         for path, found in specs.items():
             self.files.update({(module_of(path), name): path for name in found})
         for path, found in specs.items():
-            imports, module = imports_in(texts[path]), module_of(path)
+            imports, module = imports_in(texts[path], passed), module_of(path)
             self.uses.update({(module, name): self.named(lines, imports, module) - {(module, name)} for name, lines in found.items()})
         for path, text in texts.items():
-            imports = imports_in(text)
+            imports = imports_in(text, passed)
             if path.endswith(".rt"):
                 self.claimed |= self.named(USE.sub("", text), imports)
             elif "/proofs/" in path:

@@ -1,3 +1,4 @@
+pub mod Names
 pub mod common
 pub mod spin
 pub mod queue

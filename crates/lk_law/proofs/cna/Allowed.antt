@@ -1,30 +1,15 @@
 -- The events of the choice are allowed on the histories before them; and no waiter that stands
 -- aside is passed by too often.
-use Rattle.std.proofs.Common.{◌≡◌, ◌<◌, ◌≤◌, ℕ, zero, suc, Some, Bool, true, List, [], ◌∷◌}
-use Rattle.std.proofs.Common.{arith, ap, refl, sym, ◌∙◌, subst, slice_get}
-use Rattle.std.specs.Prelude.{not}
-use Rattle.lk_names.specs.History.{LockHistory}
-use Rattle.lk_names.specs.declared.holder.Manner.TheVariants.{Spins}
-use Rattle.lk_names.specs.Lawful.{Rules, is_far, is_local, movable, lawful_moves}
-use Rattle.lk_names.specs.declared.names.Mode.{Mode}
-use Rattle.lk_names.specs.declared.names.Mode.TheVariants.{Virt, Native, Cna, Pv}
-use Rattle.lk_names.specs.declared.names.Waiter.{Waiter}
-use Rattle.lk_names.specs.declared.names.LockName.{LockName}
-use Rattle.lk_names.specs.declared.events.What.TheVariants.{Pass, Flush, Promote}
-use Rattle.lk_word.specs.declared.spin_word.NodeName.{NodeName}
-use Rattle.lk_law.specs.Phase.{has_node}
-use Rattle.lk_law.specs.Phase.Phase.{Holds, Waits}
-use Rattle.lk_law.specs.Stage.Stage.{Counts, Picked}
-use Rattle.lk_law.specs.Snapshot.{Snapshot}
-use Rattle.lk_law.specs.Cna.{moves_aside}
-use Rattle.lk_law.specs.Agree.{SnapshotAgrees}
-use Rattle.lk_law.specs.Allowed.{MayFollow}
-use Rattle.lk_law.proofs.common.Before.{nodes_apart}
-use Rattle.lk_law.proofs.cna.Joined.{get_below}
+use Rattle.std.proofs.Common.{◌≡◌, ◌<◌, ◌≤◌, ℕ, zero, suc, Some, Bool, true, List, [], ◌∷◌, arith}
+use Rattle.std.proofs.Common.{ap, refl, sym, ◌∙◌, subst, slice_get, not}
+use Rattle.lk_law.proofs.Names.{NodeName, LockHistory, Rules, is_local, Flush, Pass, Promote, Spins}
+use Rattle.lk_law.proofs.Names.{LockName, Mode, Cna, Native, Pv, Virt, Waiter, SnapshotAgrees}
+use Rattle.lk_law.proofs.Names.{MayFollow, moves_aside, has_node, Holds, Waits, Snapshot, Counts}
+use Rattle.lk_law.proofs.Names.{Picked}
+use Rattle.lk_names.specs.Lawful.{is_far, movable, lawful_moves}
+use Rattle.lk_law.proofs.{cna.Front.front_lead, cna.Joined.get_below, cna.Laws.{here, front}}
+use Rattle.lk_law.proofs.{common.Allowed.{on_lock, shared_by, first_is}, common.Before.nodes_apart}
 use Rattle.lk_law.proofs.common.Holders.{holds_alone}
-use Rattle.lk_law.proofs.cna.Laws.{here, front}
-use Rattle.lk_law.proofs.cna.Front.{front_lead}
-use Rattle.lk_law.proofs.common.Allowed.{on_lock, shared_by, first_is}
 
 -- so many waiters may be moved, where each of them is far and has another behind it
 movable_least : (far : Waiter → Bool) (ws : List Waiter) (k : ℕ)

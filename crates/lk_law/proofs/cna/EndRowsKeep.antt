@@ -1,48 +1,29 @@
 -- The handover of the choice, and the return of the second queue, keep every sound world.
-use Rattle.std.proofs.Common.{◌≡◌, inl, inr, ℕ, Option, Some, None, Bool, true, false, []}
-use Rattle.std.proofs.Common.{◌∷◌, arith, ap, refl, sym, ◌∙◌, subst}
-use Rattle.std.specs.Prelude.{◌==◌, ◌&&◌, not}
-use Rattle.std.proofs.lemmas.Bool.{cases_Bool, eqb-true}
-use Rattle.lk_names.specs.declared.holder.Manner.TheVariants.{Spins}
-use Rattle.lk_names.specs.declared.events.What.TheVariants.{Flush, Promote}
-use Rattle.lk_word.specs.declared.spin_word.NodeName.{NodeName}
-use Rattle.lk_word.specs.declared.spin_word.Fields.{Fields}
-use Rattle.lk_rows.specs.declared.parts.Node.{Node}
-use Rattle.lk_rows.specs.declared.parts.Frame.{Frame}
-use Rattle.lk_rows.specs.declared.parts.Pc.TheVariants.{C1, C7, C8, C9, C10}
-use Rattle.lk_rows.specs.Moves.{is_node, node_of}
-use Rattle.lk_rows.specs.Row.{Tell, Says, Passes, Goes, Y, Second, looks}
-use Rattle.lk_rows.specs.Row.{Leaves}
-use Rattle.lk_names.specs.Lawful.{is_local}
-use Rattle.lk_rows.specs.rows.Cna.{flag_for, is_held, is_last}
-use Rattle.lk_law.specs.Phase.{seeks}
-use Rattle.lk_law.specs.Phase.Phase.{Holds}
-use Rattle.lk_law.specs.Stage.Stage.{Hangs, Counts, Picks, Picked}
-use Rattle.lk_law.specs.Places.{snapshot}
-use Rattle.lk_law.specs.Registers.{ChoiceFits}
-use Rattle.lk_law.specs.Steps.{put_node, led, lead_on}
-use Rattle.lk_law.specs.SpinLaws.{SpinRowKeeps}
-use Rattle.lk_law.specs.Premises.{Uses}
-use Rattle.lk_law.proofs.cna.Laws.{law_move, law_hand, law_flush, law_promote}
+use Rattle.std.proofs.Common.{◌≡◌, inl, inr, ℕ, Option, Some, None, Bool, true, false, [], ◌∷◌}
+use Rattle.std.proofs.Common.{arith, ap, refl, sym, ◌∙◌, subst, ◌==◌, ◌&&◌, not}
+use Rattle.lk_law.proofs.Names.{cases_Bool, eqb-true, Fields, NodeName, is_local, Flush, Promote}
+use Rattle.lk_law.proofs.Names.{Spins, is_node, node_of, Goes, Leaves, Passes, Says, Tell, Y, looks}
+use Rattle.lk_law.proofs.Names.{Frame, Node, C1, C7, C8, C9, C10, flag_for, is_held, is_last, seeks}
+use Rattle.lk_law.proofs.Names.{Holds, snapshot, Uses, ChoiceFits, SpinRowKeeps, Counts, Hangs}
+use Rattle.lk_law.proofs.Names.{Picked, Picks, lead_on, led, put_node}
+use Rattle.lk_rows.specs.Row.{Second}
 use Rattle.lk_law.proofs.cna.Allowed.{allow_hand, allow_move, allow_flush, allow_promote}
-use Rattle.lk_law.proofs.cna.Tails.{c10_fail}
-use Rattle.lk_law.proofs.common.Puts.{if_cases, if-true, if-false, put_word-here, put_rewrites}
-use Rattle.lk_law.proofs.common.Users.{some_is, is_node-true, used_noded, used_own}
-use Rattle.lk_law.proofs.common.Turns.{node_turn, word_turn, queued_turn}
-use Rattle.lk_law.proofs.common.TurnSteps.{node_plain, word_plain}
-use Rattle.lk_law.proofs.common.TurnSteps.{queued_plain, turn_stage, turn_kept}
-use Rattle.lk_law.proofs.common.Choices.{choosing}
-use Rattle.lk_law.proofs.common.Acting.{Acting, StandsAwake, Kept, spin_row_keeps, fit_here}
-use Rattle.lk_law.proofs.common.Acting.{phase_here}
-use Rattle.lk_law.proofs.common.Acting.{own_here, held_not, left_place, going_step, going_stays}
-use Rattle.lk_law.proofs.common.Acting.{goes_kept, Ending, ending_step, ending_leaves, ends_kept}
-use Rattle.lk_law.proofs.common.Acting.{counted_off, awake_here}
-use Rattle.lk_law.proofs.spin.RowsKeep.{WordKept}
-use Rattle.lk_law.proofs.queue.ArriveRowsKeep.{both-true}
+use Rattle.lk_law.proofs.cna.Laws.{law_move, law_hand, law_flush, law_promote}
 use Rattle.lk_law.proofs.cna.RowsKeep.{choice_going, aside_here, holds_shown, stage_shown}
 use Rattle.lk_law.proofs.cna.RowsKeep.{kept_shown, lists_here, front_here, choice_kept, look_others}
 use Rattle.lk_law.proofs.cna.RowsKeep.{look_now, look_kept}
-use Rattle.lk_law.proofs.cna.StoreRowsKeep.{store_on, store_now}
+use Rattle.lk_law.proofs.{cna.StoreRowsKeep.{store_on, store_now}, cna.Tails.c10_fail}
+use Rattle.lk_law.proofs.common.Acting.{Acting, StandsAwake, Kept, spin_row_keeps, fit_here}
+use Rattle.lk_law.proofs.common.Acting.{phase_here, own_here, held_not, left_place, going_step}
+use Rattle.lk_law.proofs.common.Acting.{going_stays, goes_kept, Ending, ending_step, ending_leaves}
+use Rattle.lk_law.proofs.common.Acting.{ends_kept, counted_off, awake_here}
+use Rattle.lk_law.proofs.common.Choices.{choosing}
+use Rattle.lk_law.proofs.common.Puts.{if_cases, if-true, if-false, put_word-here, put_rewrites}
+use Rattle.lk_law.proofs.common.TurnSteps.{node_plain, word_plain, queued_plain, turn_stage}
+use Rattle.lk_law.proofs.common.TurnSteps.{turn_kept}
+use Rattle.lk_law.proofs.common.Turns.{node_turn, word_turn, queued_turn}
+use Rattle.lk_law.proofs.common.Users.{some_is, is_node-true, used_noded, used_own}
+use Rattle.lk_law.proofs.{queue.ArriveRowsKeep.both-true, spin.RowsKeep.WordKept}
 
 -- C8
 

@@ -1,25 +1,15 @@
 use Rattle.std.proofs.Common.{◌≡◌, ℕ, suc, Option, Some, None, Bool, true, List, [], ◌∷◌, ◌++◌}
 use Rattle.std.proofs.Common.{length, ◌⊎◌, inl, inr, arith, ap, refl, sym, ◌∙◌, subst, slice_get}
 use Rattle.std.proofs.Common.{drop, take}
-use Rattle.lk_names.specs.declared.names.Waiter.{Waiter}
-use Rattle.lk_word.specs.declared.spin_word.NodeName.{NodeName}
-use Rattle.lk_rows.specs.declared.parts.Node.{Node}
-use Rattle.lk_law.specs.Phase.{Phase, queues, leads, has_node}
-use Rattle.lk_law.specs.Snapshot.{Moves, Rewrites, QueueAgrees}
-use Rattle.lk_law.specs.Phase.Phase.{Prepared, Leads, Idle}
-use Rattle.lk_law.specs.Stage.{Stage, cut_of, tip_of, tied, tail_seen, before_of}
-use Rattle.lk_law.specs.Cna.{CnaAgrees, FrontAgrees, SecondAgrees, part, front_cut, front_tip}
-use Rattle.lk_law.specs.Cna.{named_by}
-use Rattle.lk_law.specs.Stage.Stage.{Rests, Flushing, Promoting}
-use Rattle.lk_law.proofs.common.Cases.{waiter_cases, Apart}
-use Rattle.lk_names.proofs.ByIndex.{last_cases}
-use Rattle.lk_law.proofs.cna.Parts.{part_cases, part_out}
-use Rattle.lk_law.proofs.queue.Arrive.{arrive_first}
+use Rattle.lk_law.proofs.Names.{NodeName, last_cases, Waiter, Node, CnaAgrees, FrontAgrees}
+use Rattle.lk_law.proofs.Names.{SecondAgrees, front_cut, front_tip, named_by, part, Phase, has_node}
+use Rattle.lk_law.proofs.Names.{leads, queues, Idle, Leads, Prepared, Moves, QueueAgrees, Rewrites}
+use Rattle.lk_law.proofs.Names.{Stage, cut_of, tail_seen, tied, tip_of, Flushing, Promoting, Rests}
+use Rattle.lk_law.proofs.{cna.Join.c9_c10, cna.Parts.{part_cases, part_out, nobody-first}}
+use Rattle.lk_law.proofs.{cna.Rows.part_moves, cna.Steps.{LeavesAlone, LetsReturn, JoinsAt}}
+use Rattle.lk_law.proofs.{common.Cases.{waiter_cases, Apart}, queue.Arrive.arrive_first}
 use Rattle.lk_law.proofs.queue.Sole.{queue_sole, sole_empty}
-use Rattle.lk_law.proofs.cna.Rows.{part_moves}
-use Rattle.lk_law.proofs.cna.Join.{c9_c10}
-use Rattle.lk_law.proofs.cna.Parts.{nobody-first}
-use Rattle.lk_law.proofs.cna.Steps.{LeavesAlone, LetsReturn, JoinsAt}
+use Rattle.lk_law.specs.Stage.{before_of}
 
 nothing : {A : Type 0} (xs : List A) → slice_get xs 0 ≡ None → xs ≡ []
 nothing [] h = refl

@@ -1,16 +1,10 @@
 -- What the front knows while it chooses the next: whose nodes its registers name.
 use Rattle.std.proofs.Common.{◌≡◌, ℕ, Option, Some, None, Bool, true, false, List, [], ◌∷◌, inl}
 use Rattle.std.proofs.Common.{inr, arith, ap, refl, sym, ◌∙◌, subst, slice_get}
-use Rattle.lk_names.specs.declared.names.Waiter.{Waiter}
-use Rattle.lk_word.specs.declared.spin_word.NodeName.{NodeName}
-use Rattle.lk_rows.specs.declared.parts.Node.{Node}
-use Rattle.lk_law.specs.Phase.{Phase, has_node}
-use Rattle.lk_law.specs.Phase.Phase.{Waits, Holds}
-use Rattle.lk_law.specs.Snapshot.{QueueAgrees}
-use Rattle.lk_law.specs.Stage.{Stage, cut_of, tip_of, passed_over, chosen, tail_seen, tied, hangs}
-use Rattle.lk_law.specs.Cna.{CnaAgrees, FrontAgrees, SecondAgrees, part, shown, front_cut}
-use Rattle.lk_law.specs.Cna.{front_tip, named_by, first_node}
-use Rattle.lk_names.proofs.ByIndex.{last_cases}
+use Rattle.lk_law.proofs.Names.{NodeName, last_cases, Waiter, Node, CnaAgrees, FrontAgrees}
+use Rattle.lk_law.proofs.Names.{SecondAgrees, first_node, front_cut, front_tip, named_by, part}
+use Rattle.lk_law.proofs.Names.{shown, Phase, has_node, Holds, Waits, QueueAgrees, Stage, chosen}
+use Rattle.lk_law.proofs.Names.{cut_of, hangs, passed_over, tail_seen, tied, tip_of}
 use Rattle.lk_law.proofs.common.Families.{Last}
 
 module _ {tail : Option NodeName} {phase : Waiter → Phase} {own : Waiter → NodeName}

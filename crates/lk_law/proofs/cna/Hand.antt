@@ -1,27 +1,18 @@
-use Rattle.std.proofs.Common.{false, ◌≡◌, ◌≢◌, ℕ, zero, suc, Option, Some, None, Bool, List, [], ◌∷◌}
-use Rattle.std.proofs.Common.{◌++◌, length, ◌⊎◌, inl, inr, arith, ap, refl, sym, ◌∙◌, subst, ◌<◌}
-use Rattle.std.proofs.Common.{◌≤◌, ◌+◌, slice_get, drop, take, replicate, length-append}
-use Rattle.std.specs.Prelude.{map, if◌then◌else◌}
-use Rattle.std.proofs.lemmas.Bool.{cases_eq}
+use Rattle.std.proofs.Common.{false, ◌≡◌, ◌≢◌, ℕ, zero, suc, Option, Some, None, Bool, List, []}
+use Rattle.std.proofs.Common.{◌∷◌, ◌++◌, length, ◌⊎◌, inl, inr, arith, ap, refl, sym, ◌∙◌, subst}
+use Rattle.std.proofs.Common.{◌<◌, ◌≤◌, ◌+◌, slice_get, drop, take, replicate, length-append, map}
+use Rattle.std.proofs.Common.{if◌then◌else◌}
 use Rattle.std.proofs.lemmas.List.{length-replicate}
-use Rattle.lk_names.specs.declared.names.Waiter.{Waiter}
-use Rattle.lk_word.specs.declared.spin_word.NodeName.{NodeName}
-use Rattle.lk_rows.specs.declared.parts.Node.{Node}
-use Rattle.lk_law.specs.Phase.{Phase}
-use Rattle.lk_law.specs.Snapshot.{QueueAgrees}
-use Rattle.lk_law.specs.Phase.Phase.{Waits, Holds}
-use Rattle.lk_law.specs.Stage.{Stage}
-use Rattle.lk_law.specs.Cna.{CnaAgrees, FrontAgrees, SecondAgrees, part, shown, front_cut}
-use Rattle.lk_law.specs.Cna.{front_tip, node_in, named_by, same_none, first_node}
-use Rattle.lk_rows.specs.rows.Cna.{flag_for}
-use Rattle.lk_law.specs.Stage.Stage.{Rests}
-use Rattle.lk_law.proofs.common.Cases.{waiter_cases}
-use Rattle.lk_names.proofs.ByIndex.{get_cases, get-drop_one, get_within, get_past}
+use Rattle.lk_law.proofs.Names.{cases_eq, NodeName, get-drop_one, get_cases, Waiter, Node, flag_for}
+use Rattle.lk_law.proofs.Names.{CnaAgrees, FrontAgrees, SecondAgrees, first_node, front_cut}
+use Rattle.lk_law.proofs.Names.{front_tip, named_by, part, same_none, shown, Phase, Holds, Waits}
+use Rattle.lk_law.proofs.Names.{QueueAgrees, Stage, Rests}
+use Rattle.lk_names.proofs.ByIndex.{get_within, get_past}
 use Rattle.lk_law.proofs.cna.Joined.{get-drop, get-take_none, get_below, get-join, get-join_left}
-use Rattle.lk_law.proofs.cna.Joined.{get-join_last}
-use Rattle.lk_law.proofs.cna.Parts.{not_in}
+use Rattle.lk_law.proofs.{cna.Joined.get-join_last, cna.Parts.not_in}
 use Rattle.lk_law.proofs.cna.Pass.{get-skip, skip-in, c8_queue, c8-main, c8-same}
-use Rattle.lk_law.proofs.cna.Steps.{HandsOver, IsHandedTo, KnowsMoved}
+use Rattle.lk_law.proofs.{cna.Steps.{HandsOver, IsHandedTo, KnowsMoved}, common.Cases.waiter_cases}
+use Rattle.lk_law.specs.Cna.{node_in}
 
 -- nothing changes that the second queue reads
 pub second_keep : {phase phase' : Waiter → Phase} {own own' : Waiter → NodeName}

@@ -1,24 +1,15 @@
-use Rattle.std.proofs.Common.{◌≡◌, ◌≢◌, ℕ, suc, Option, Some, None, Bool, true, List, []}
-use Rattle.std.proofs.Common.{◌∷◌, ◌++◌, inl, inr, arith, ap, refl, sym, ◌∙◌, subst, slice_get}
-use Rattle.std.proofs.Common.{drop, take, length, ◌+◌}
-use Rattle.lk_names.specs.declared.names.Waiter.{Waiter}
-use Rattle.lk_word.specs.declared.spin_word.NodeName.{NodeName}
-use Rattle.lk_rows.specs.declared.parts.Node.{Node}
-use Rattle.lk_law.specs.Phase.{Phase, queues, has_node}
-use Rattle.lk_law.specs.Snapshot.{QueueAgrees}
-use Rattle.lk_rows.specs.Machine.{rest_node}
-use Rattle.lk_law.specs.Phase.Phase.{Prepared, Waits, Holds}
-use Rattle.lk_law.specs.Stage.{Stage, cut_of}
-use Rattle.lk_law.specs.Cna.{CnaAgrees, FrontAgrees, SecondAgrees, part, shown, front_cut}
-use Rattle.lk_law.specs.Cna.{front_tip, named_by, first_node}
-use Rattle.lk_law.specs.Stage.Stage.{Picks}
-use Rattle.lk_law.proofs.common.Cases.{node_cases}
-use Rattle.lk_names.proofs.ByIndex.{last_cases, get-drop_one}
+use Rattle.std.proofs.Common.{◌≡◌, ◌≢◌, ℕ, suc, Option, Some, None, Bool, true, List, [], ◌∷◌, ◌++◌}
+use Rattle.std.proofs.Common.{inl, inr, arith, ap, refl, sym, ◌∙◌, subst, slice_get, drop, take}
+use Rattle.std.proofs.Common.{length, ◌+◌}
+use Rattle.lk_law.proofs.Names.{NodeName, get-drop_one, last_cases, Waiter, rest_node, Node}
+use Rattle.lk_law.proofs.Names.{CnaAgrees, FrontAgrees, SecondAgrees, first_node, front_cut}
+use Rattle.lk_law.proofs.Names.{front_tip, named_by, part, shown, Phase, has_node, queues, Holds}
+use Rattle.lk_law.proofs.Names.{Prepared, Waits, QueueAgrees, Stage, cut_of, Picks}
 use Rattle.lk_law.proofs.cna.Joined.{get-join_left, get-join_right, nonempty}
 use Rattle.lk_law.proofs.cna.Parts.{part_cases, part_in, part_out, not_in, outside_part, shown_at}
-use Rattle.lk_law.proofs.cna.Parts.{shown_else}
+use Rattle.lk_law.proofs.{cna.Parts.shown_else, cna.Steps.{LetsReturn, JoinsAt}}
+use Rattle.lk_law.proofs.common.Cases.{node_cases}
 use Rattle.lk_law.proofs.queue.Insert.{queue_insert, insert-lists, PutsBack}
-use Rattle.lk_law.proofs.cna.Steps.{LetsReturn, JoinsAt}
 
 -- rows C9 and C10: second is put right behind the one that leads
 module _ {tail tail' : Option NodeName} {phase : Waiter → Phase} {own : Waiter → NodeName}

@@ -1,16 +1,10 @@
-use Rattle.std.proofs.Common.{◌≡◌, ◌≢◌, ℕ, suc, Option, Some, Bool, true, false, List, []}
-use Rattle.std.proofs.Common.{◌∷◌, ◌⊎◌, inl, inr, arith, ap, refl, sym, ◌∙◌, ◌+◌, slice_get}
-use Rattle.std.specs.Prelude.{if◌then◌else◌}
-use Rattle.lk_names.specs.declared.names.Waiter.{Waiter}
-use Rattle.lk_word.specs.declared.spin_word.NodeName.{NodeName}
-use Rattle.lk_rows.specs.declared.parts.Node.{Node}
-use Rattle.lk_law.specs.Phase.{Phase}
-use Rattle.lk_law.specs.Phase.Phase.{Waits}
-use Rattle.lk_law.specs.Stage.{Stage, passed_over, parted, chosen, told_runs, tied}
-use Rattle.lk_law.specs.Cna.{FrontAgrees, SecondAgrees, same_none, first_node}
-use Rattle.lk_law.specs.Stage.Stage.{Counts, Picked, Ties, Cuts, Hangs}
-use Rattle.lk_names.proofs.ByIndex.{last_cases}
+use Rattle.std.proofs.Common.{◌≡◌, ◌≢◌, ℕ, suc, Option, Some, Bool, true, false, List, [], ◌∷◌, ◌⊎◌}
+use Rattle.std.proofs.Common.{inl, inr, arith, ap, refl, sym, ◌∙◌, ◌+◌, slice_get, if◌then◌else◌}
+use Rattle.lk_law.proofs.Names.{NodeName, last_cases, Waiter, Node, FrontAgrees, SecondAgrees}
+use Rattle.lk_law.proofs.Names.{first_node, same_none, Phase, Waits, Stage, chosen, parted}
+use Rattle.lk_law.proofs.Names.{passed_over, tied, Counts, Cuts, Hangs, Picked, Ties}
 use Rattle.lk_law.proofs.cna.Steps.{OthersAct}
+use Rattle.lk_law.specs.Stage.{told_runs}
 
 -- the last of those passed over
 pub parted-at : {phase : Waiter → Phase} {own : Waiter → NodeName} {node : NodeName → Node}

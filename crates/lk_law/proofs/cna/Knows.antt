@@ -1,41 +1,26 @@
 -- What a sound world says of the nodes on which the rows of the choice operate; and how often a
 -- waiter that stands aside is passed by.
 use Rattle.std.proofs.Common.{◌≡◌, ◌<◌, inl, inr, ℕ, Option, Some, None, Bool, true, false, List}
-use Rattle.std.proofs.Common.{arith, ap, refl, sym, ◌∙◌, subst, slice_get}
-use Rattle.std.specs.Prelude.{◌==◌, ◌||◌, nat_lt, is_some, if◌then◌else◌}
-use Rattle.std.proofs.lemmas.Bool.{cases_Bool, ltb-false}
-use Rattle.lk_names.specs.History.{LockHistory}
-use Rattle.lk_names.specs.Lawful.{is_local, same_socket}
-use Rattle.lk_names.specs.declared.names.Format.{Format}
-use Rattle.lk_names.specs.declared.names.Format.TheVariants.{One, Two}
-use Rattle.lk_names.specs.declared.names.Waiter.{Waiter}
-use Rattle.lk_names.specs.declared.names.LockName.{LockName}
-use Rattle.lk_word.specs.declared.spin_word.NodeName.{NodeName}
-use Rattle.lk_rows.specs.declared.parts.Frame.{Frame}
-use Rattle.lk_rows.specs.declared.parts.Pc.{Pc}
-use Rattle.lk_rows.specs.declared.parts.Pc.TheVariants.{C1, C2, C3, C4, C5, C6, C7, C8, C9, C10}
-use Rattle.lk_rows.specs.declared.parts.Why.{Why}
-use Rattle.lk_rows.specs.declared.parts.Why.TheVariants as why
-use Rattle.lk_rows.specs.Moves.{node_of}
-use Rattle.lk_law.specs.Phase.{Phase, has_node, queues}
-use Rattle.lk_law.specs.Phase.Phase.{Holds}
-use Rattle.lk_law.specs.Stage.{Stage, tied}
-use Rattle.lk_law.specs.Stage.Stage.{Picks, Picked, Hangs, Counts}
-use Rattle.lk_law.specs.Cna.{CnaAgrees, FrontAgrees, named_by, moves_aside}
-use Rattle.lk_law.specs.World.{World}
-use Rattle.lk_law.specs.SpinWorld.{IsSoundSpinWorld}
-use Rattle.lk_law.specs.Places.{snapshot, phase_at, phase_if, phase_on}
-use Rattle.lk_law.specs.Places.{stage_at, stage_why, stage_if, stage_on, kept_in, own_in}
-use Rattle.lk_law.specs.Families.{chooses}
-use Rattle.lk_law.specs.Premises.{Uses}
-use Rattle.lk_law.specs.Known.{IsOwnNode, ChoiceIsUsed, PassesAreBounded, RunsAreBounded, RunIsShort}
-use Rattle.lk_law.specs.Known.{SkippedIsQueued, QueueIsDistinct, AsideAreTasks}
-use Rattle.lk_law.proofs.common.Puts.{if-true, if-false}
-use Rattle.lk_law.proofs.common.Worlds.{phase_on-here, stage_on-here}
-use Rattle.lk_law.proofs.common.Users.{user_of, own_node, some_is}
-use Rattle.lk_law.proofs.common.Families.{Last, lists_front, lists_main}
+use Rattle.std.proofs.Common.{arith, ap, refl, sym, ◌∙◌, subst, slice_get, ◌==◌, ◌||◌, nat_lt}
+use Rattle.std.proofs.Common.{is_some, if◌then◌else◌}
+use Rattle.std.proofs.lemmas.Bool.{ltb-false}
+use Rattle.lk_law.proofs.Names.{cases_Bool, NodeName, LockHistory, is_local, Format, LockName}
+use Rattle.lk_law.proofs.Names.{Waiter, node_of, Frame, Pc, C1, C2, C3, C4, C5, C6, C7, C8, C9, C10}
+use Rattle.lk_law.proofs.Names.{Why, CnaAgrees, FrontAgrees, moves_aside, named_by, chooses}
+use Rattle.lk_law.proofs.Names.{IsOwnNode, Phase, has_node, queues, Holds, kept_in, own_in}
+use Rattle.lk_law.proofs.Names.{phase_at, phase_if, phase_on, snapshot, stage_at, stage_if}
+use Rattle.lk_law.proofs.Names.{stage_on, stage_why, Uses, IsSoundSpinWorld, Stage, tied, Counts}
+use Rattle.lk_law.proofs.Names.{Hangs, Picked, Picks, World}
+use Rattle.lk_names.specs.{Lawful.same_socket, declared.names.Format.TheVariants.{One, Two}}
 use Rattle.lk_law.proofs.cna.Front.{owner_next, owner_last, owner_tail, owner_second, owner_moved}
 use Rattle.lk_law.proofs.cna.MoveAllowed.{cna_bounded}
+use Rattle.lk_law.proofs.common.Families.{Last, lists_front, lists_main}
+use Rattle.lk_law.proofs.common.Puts.{if-true, if-false}
+use Rattle.lk_law.proofs.common.Users.{user_of, own_node, some_is}
+use Rattle.lk_law.proofs.common.Worlds.{phase_on-here, stage_on-here}
+use Rattle.lk_law.specs.Known.{ChoiceIsUsed, PassesAreBounded, RunsAreBounded, RunIsShort}
+use Rattle.lk_law.specs.Known.{SkippedIsQueued, QueueIsDistinct, AsideAreTasks}
+use Rattle.lk_rows.specs.declared.parts.Why.TheVariants as why
 
 module _ {m : World} {hs : LockName → LockHistory} {w : Waiter} {f : Frame} {c : Pc}
     (ok : IsSoundSpinWorld m hs) (live : m.frame w ≡ Some f) (place : f.place ≡ Some c) where

@@ -2,35 +2,18 @@
 -- second queue return.
 use Rattle.std.proofs.Common.{◌≡◌, ℕ, Option, Some, None, Bool, true, false, List, [], ◌++◌, inl}
 use Rattle.std.proofs.Common.{inr, arith, ap, refl, sym, ◌∙◌, slice_get, drop, take}
-use Rattle.lk_names.specs.History.{LockHistory, told}
-use Rattle.lk_names.specs.declared.names.Waiter.{Waiter}
-use Rattle.lk_names.specs.declared.names.LockName.{LockName}
-use Rattle.lk_names.specs.declared.events.Event.{Event}
-use Rattle.lk_names.specs.declared.events.What.TheVariants.{Pass, Flush, Promote}
-use Rattle.lk_word.specs.declared.spin_word.NodeName.{NodeName}
-use Rattle.lk_word.specs.declared.spin_word.Fields.{Fields}
-use Rattle.lk_rows.specs.declared.parts.Node.{Node}
-use Rattle.lk_rows.specs.rows.Cna.{flag_for}
-use Rattle.lk_law.specs.Phase.{Phase}
-use Rattle.lk_law.specs.Phase.Phase.{Idle, Holds}
-use Rattle.lk_law.specs.Stage.{Stage}
-use Rattle.lk_law.specs.Stage.Stage.{Counts, Picked, Picks, Flushing, Promoting}
-use Rattle.lk_law.specs.Snapshot.{Snapshot, Rewrites}
-use Rattle.lk_law.specs.Cna.{ListsAgree, CnaAgrees, moves_aside}
-use Rattle.lk_law.specs.Agree.{LockAgrees, SnapshotAgrees, Step, Stays, LeavesSlowPath, halts}
-use Rattle.lk_law.proofs.common.Cases.{waiter_cases}
-use Rattle.lk_law.proofs.spin.Hold.{hold_keep}
-use Rattle.lk_law.proofs.spin.Pend.{pend_still}
-use Rattle.lk_law.proofs.common.Told.{told_lock, told_others}
+use Rattle.lk_law.proofs.Names.{Fields, NodeName, LockHistory, told, Event, Flush, Pass, Promote}
+use Rattle.lk_law.proofs.Names.{LockName, Waiter, Node, flag_for, LeavesSlowPath, LockAgrees}
+use Rattle.lk_law.proofs.Names.{SnapshotAgrees, Stays, Step, halts, CnaAgrees, ListsAgree}
+use Rattle.lk_law.proofs.Names.{moves_aside, Phase, Holds, Idle, Rewrites, Snapshot, Stage, Counts}
+use Rattle.lk_law.proofs.Names.{Flushing, Picked, Picks, Promoting}
+use Rattle.lk_law.proofs.{cna.Ends.{c9_flush, c10_promote}, cna.Front.{owner_next, owner_tail}}
+use Rattle.lk_law.proofs.{cna.Steps.{HandsOver, LetsReturn}, cna.Turn.{c8_move, c8_plain}}
+use Rattle.lk_law.proofs.{common.Cases.waiter_cases, common.Families.{Last, lists_front}}
 use Rattle.lk_law.proofs.common.Frame.{LeavesOthers, nodes_stay, nodes_leave, agrees_after}
-use Rattle.lk_law.proofs.common.Frame.{no_posts}
-use Rattle.lk_law.proofs.spin.Laws.{SameNodes}
-use Rattle.lk_law.proofs.queue.Laws.{apart_on, rewrite_here, own_is, node_is}
-use Rattle.lk_law.proofs.common.Families.{Last, lists_front}
-use Rattle.lk_law.proofs.cna.Front.{owner_next, owner_tail}
-use Rattle.lk_law.proofs.cna.Turn.{c8_move, c8_plain}
-use Rattle.lk_law.proofs.cna.Ends.{c9_flush, c10_promote}
-use Rattle.lk_law.proofs.cna.Steps.{HandsOver, LetsReturn}
+use Rattle.lk_law.proofs.{common.Frame.no_posts, common.Told.{told_lock, told_others}}
+use Rattle.lk_law.proofs.{queue.Laws.{apart_on, rewrite_here, own_is, node_is}, spin.Hold.hold_keep}
+use Rattle.lk_law.proofs.{spin.Laws.SameNodes, spin.Pend.pend_still}
 
 -- where waiters are moved aside there are two queues
 pub cna_lists : {aside : Bool} {tail : Option NodeName} {phase : Waiter → Phase}

@@ -2,22 +2,13 @@
 -- that stores nothing.
 use Rattle.std.proofs.Common.{◌≡◌, ◌≢◌, ℕ, suc, Option, Some, None, Bool, true, false, List, []}
 use Rattle.std.proofs.Common.{◌∷◌, ◌⊎◌, inl, inr, arith, ap, refl, sym, ◌∙◌, subst, ◌<◌, slice_get}
-use Rattle.lk_names.specs.declared.names.Waiter.{Waiter}
-use Rattle.lk_word.specs.declared.spin_word.NodeName.{NodeName}
-use Rattle.lk_rows.specs.declared.parts.Node.{Node}
-use Rattle.lk_rows.specs.Machine.{rest_node}
-use Rattle.lk_law.specs.Phase.{Phase, queues}
-use Rattle.lk_law.specs.Snapshot.{QueueAgrees}
-use Rattle.lk_law.specs.Phase.Phase.{Prepared, Waits, Holds}
-use Rattle.lk_law.specs.Stage.{Stage, cut_of, tip_of, passed_over, tied, hangs}
-use Rattle.lk_law.specs.Cna.{CnaAgrees, FrontAgrees, SecondAgrees, part, shown, front_cut}
-use Rattle.lk_law.specs.Cna.{front_tip, named_by, first_node}
-use Rattle.lk_law.specs.Stage.Stage.{Picks}
-use Rattle.lk_law.proofs.common.Cases.{node_cases}
-use Rattle.lk_names.proofs.ByIndex.{get_cases}
+use Rattle.lk_law.proofs.Names.{NodeName, get_cases, Waiter, rest_node, Node, CnaAgrees}
+use Rattle.lk_law.proofs.Names.{FrontAgrees, SecondAgrees, first_node, front_cut, front_tip}
+use Rattle.lk_law.proofs.Names.{named_by, part, shown, Phase, queues, Holds, Prepared, Waits}
+use Rattle.lk_law.proofs.Names.{QueueAgrees, Stage, cut_of, hangs, passed_over, tied, tip_of, Picks}
 use Rattle.lk_law.proofs.cna.Front.{front_lead, front_queue, front_second}
 use Rattle.lk_law.proofs.cna.Parts.{part_out, shown_at, shown_else, shown_flag}
-use Rattle.lk_law.proofs.queue.Lead.{follows_cases}
+use Rattle.lk_law.proofs.{common.Cases.node_cases, queue.Lead.follows_cases}
 
 -- the flags and links that the queue reads stay
 pub queue_same : {tail : Option NodeName} {phase : Waiter → Phase} {own : Waiter → NodeName}

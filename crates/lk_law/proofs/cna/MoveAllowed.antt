@@ -1,12 +1,6 @@
 use Rattle.std.proofs.Common.{◌≡◌, ℕ, Option, Some, Bool, List, [], ◌∷◌, length, inl, inr, arith}
 use Rattle.std.proofs.Common.{ap, refl, ◌≤◌, slice_get}
-use Rattle.lk_names.specs.declared.names.Waiter.{Waiter}
-use Rattle.lk_word.specs.declared.spin_word.NodeName.{NodeName}
-use Rattle.lk_rows.specs.declared.parts.Node.{Node}
-use Rattle.lk_law.specs.Phase.{Phase}
-use Rattle.lk_law.specs.Stage.{Stage}
-use Rattle.lk_law.specs.Cna.{CnaAgrees}
-use Rattle.lk_names.proofs.ByIndex.{get_cases}
+use Rattle.lk_law.proofs.Names.{NodeName, get_cases, Waiter, Node, CnaAgrees, Phase, Stage}
 
 module _ {tail : Option NodeName} {phase : Waiter → Phase} {own : Waiter
     → NodeName} {node : NodeName → Node}

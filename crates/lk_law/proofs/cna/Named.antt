@@ -1,42 +1,23 @@
 -- Whose nodes a front meets while it chooses the next, and what the chosen one does.
-use Rattle.std.proofs.Common.{◌≡◌, ℕ, Option, Some, None, Bool, true, false, List, [], ◌∷◌, inl, inr}
-use Rattle.std.proofs.Common.{ap, refl, sym, ◌∙◌, subst, arith, slice_get}
-use Rattle.std.proofs.lemmas.Bool.{cases_Bool}
-use Rattle.std.specs.Prelude.{◌==◌, is_some, if◌then◌else◌}
-use Rattle.lk_names.specs.Names.{same_lock}
-use Rattle.lk_names.specs.History.{LockHistory}
-use Rattle.lk_names.specs.declared.names.LockName.{LockName}
-use Rattle.lk_names.specs.declared.names.Waiter.{Waiter}
-use Rattle.lk_word.specs.declared.spin_word.NodeName.{NodeName}
-use Rattle.lk_rows.specs.declared.parts.Flag.TheVariants.{Unset, Second}
-use Rattle.lk_rows.specs.declared.parts.Frame.{Frame}
-use Rattle.lk_rows.specs.declared.parts.Node.{Node}
-use Rattle.lk_rows.specs.declared.parts.Pc.{Pc}
-use Rattle.lk_rows.specs.declared.parts.Pc.TheVariants.{C1, C2, C3, C7, C8}
-use Rattle.lk_rows.specs.declared.parts.Why.{Why}
-use Rattle.lk_rows.specs.declared.parts.Why.TheVariants as why
-use Rattle.lk_rows.specs.Moves.{node_of}
-use Rattle.lk_law.specs.Cna.{CnaAgrees, first_node, moves_aside, named_by}
-use Rattle.lk_law.specs.Families.{chooses}
-use Rattle.lk_law.specs.Known.{IsOwnNode}
-use Rattle.lk_law.specs.Nodes.{SecondTailIsUsed, BehindIsUsed, FirstIsUsed, ChosenWaits, tells_next}
-use Rattle.lk_law.specs.Phase.{Phase, has_node}
-use Rattle.lk_law.specs.Phase.Phase.{Idle, Waits, Holds}
-use Rattle.lk_law.specs.Places.{snapshot, phase_at, phase_if, phase_of, phase_on, kept_in, own_in, stage_why}
-use Rattle.lk_law.specs.Premises.{Uses}
-use Rattle.lk_law.specs.SpinWorld.{IsSoundSpinWorld}
-use Rattle.lk_law.specs.Stage.{Stage, tied, hangs, chosen, cut_of}
-use Rattle.lk_law.specs.Stage.Stage.{Rests, Skips, Picks, Picked, Hangs, Counts}
-use Rattle.lk_law.specs.World.{World}
+use Rattle.std.proofs.Common.{◌≡◌, ℕ, Option, Some, None, Bool, true, false, List, [], ◌∷◌, inl}
+use Rattle.std.proofs.Common.{inr, ap, refl, sym, ◌∙◌, subst, arith, slice_get, ◌==◌, is_some}
+use Rattle.std.proofs.Common.{if◌then◌else◌}
+use Rattle.lk_law.proofs.Names.{cases_Bool, NodeName, last_cases, LockHistory, same_lock, LockName}
+use Rattle.lk_law.proofs.Names.{Waiter, node_of, Second, Unset, Frame, Node, Pc, C1, C2, C3, C7, C8}
+use Rattle.lk_law.proofs.Names.{Why, CnaAgrees, first_node, moves_aside, named_by, chooses}
+use Rattle.lk_law.proofs.Names.{IsOwnNode, Phase, has_node, Holds, Idle, Waits, kept_in, own_in}
+use Rattle.lk_law.proofs.Names.{phase_at, phase_if, phase_of, phase_on, snapshot, stage_why, Uses}
+use Rattle.lk_law.proofs.Names.{IsSoundSpinWorld, Stage, chosen, cut_of, hangs, tied, Counts, Hangs}
+use Rattle.lk_law.proofs.Names.{Picked, Picks, Rests, Skips, World}
 use Rattle.lk_law.proofs.cna.Front.{front_lead, front_queue, tail_known}
 use Rattle.lk_law.proofs.cna.Knows.{lists, at_front, phase_here, stage_here}
-use Rattle.lk_law.proofs.cna.Look.{look-next, look-b}
-use Rattle.lk_law.proofs.cna.Parts.{shown_flag}
+use Rattle.lk_law.proofs.{cna.Look.{look-next, look-b}, cna.Parts.shown_flag}
 use Rattle.lk_law.proofs.common.Families.{Last, lists_front}
-use Rattle.lk_names.proofs.ByIndex.{last_cases}
 use Rattle.lk_law.proofs.common.Puts.{if-true, if-false, not-true}
 use Rattle.lk_law.proofs.common.Users.{user_of, own_node, node_is_ones, some_is}
 use Rattle.lk_law.proofs.common.Worlds.{phase_on-here}
+use Rattle.lk_law.specs.Nodes.{SecondTailIsUsed, BehindIsUsed, FirstIsUsed, ChosenWaits, tells_next}
+use Rattle.lk_rows.specs.declared.parts.Why.TheVariants as why
 
 first_of : (own : Waiter → NodeName) (ws : List Waiter) (n : NodeName) → first_node own ws ≡ Some n
     → (u : Waiter) × (slice_get ws 0 ≡ Some u) × (own u ≡ n)

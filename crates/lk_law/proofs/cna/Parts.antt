@@ -1,18 +1,10 @@
 use Rattle.std.proofs.Common.{◌≡◌, ◌≢◌, ℕ, zero, suc, Option, Some, None, true, false, List, []}
-use Rattle.std.proofs.Common.{◌∷◌, ◌⊎◌, inl, inr, arith, ap, refl, slice_get, ◌∙◌}
-use Rattle.std.proofs.lemmas.Bool.{cases_Bool}
-use Rattle.lk_names.specs.declared.names.Waiter.{Waiter}
-use Rattle.lk_names.specs.Names.{same_waiter}
-use Rattle.lk_word.specs.declared.spin_word.NodeName.{NodeName}
-use Rattle.lk_rows.specs.declared.parts.Node.{Node}
-use Rattle.lk_law.specs.Phase.{Phase, queues}
-use Rattle.lk_law.specs.Phase.Phase.{Aside}
-use Rattle.lk_law.specs.Cna.{is_in, part, shown, first_node}
-use Rattle.lk_law.specs.Snapshot.{same_node}
-use Rattle.lk_law.proofs.common.Cases.{node_cases}
+use Rattle.std.proofs.Common.{◌∷◌, ◌⊎◌, inl, inr, arith, ap, refl, slice_get, ◌∙◌, sym}
+use Rattle.lk_law.proofs.Names.{cases_Bool, NodeName, same_waiter, Waiter, Node, first_node, is_in}
+use Rattle.lk_law.proofs.Names.{part, shown, Phase, queues, same_node}
+use Rattle.lk_law.proofs.{common.Cases.node_cases, common.Puts.{same_node-self, same_node-true}}
 use Rattle.lk_law.proofs.common.Sames.{same_waiter-self, same_waiter-true}
-use Rattle.lk_law.proofs.common.Puts.{same_node-self, same_node-true}
-use Rattle.std.proofs.Common.{sym}
+use Rattle.lk_law.specs.Phase.Phase.{Aside}
 
 pub is_in-get : (ws : List Waiter) (i : ℕ) (u : Waiter) → slice_get ws i ≡ Some u
     → is_in ws u ≡ true

@@ -1,24 +1,15 @@
-use Rattle.std.proofs.Common.{◌≡◌, ◌≢◌, ℕ, zero, suc, Option, Some, true, false, List, []}
-use Rattle.std.proofs.Common.{None}
+use Rattle.std.proofs.Common.{◌≡◌, ◌≢◌, ℕ, zero, suc, Option, Some, true, false, List, [], None}
 use Rattle.std.proofs.Common.{◌∷◌, ◌++◌, ◌⊎◌, inl, inr, arith, ap, refl, sym, ◌∙◌, subst, ◌<◌, ◌≤◌}
 use Rattle.std.proofs.Common.{◌+◌, slice_get, drop, take}
-use Rattle.lk_names.specs.declared.names.Waiter.{Waiter}
-use Rattle.lk_word.specs.declared.spin_word.NodeName.{NodeName}
-use Rattle.lk_rows.specs.declared.parts.Node.{Node}
-use Rattle.lk_law.specs.Phase.{Phase, queues, leads, has_node}
-use Rattle.lk_law.specs.Snapshot.{QueueAgrees}
-use Rattle.lk_rows.specs.Machine.{rest_node}
-use Rattle.lk_law.specs.Phase.Phase.{Prepared, Waits, Aside}
-use Rattle.lk_law.specs.Stage.{Stage}
-use Rattle.lk_law.specs.Cna.{is_in, part, shown}
-use Rattle.lk_law.proofs.common.Cases.{waiter_cases, node_cases}
-use Rattle.lk_names.proofs.ByIndex.{get-drop_one}
+use Rattle.lk_law.proofs.Names.{NodeName, get-drop_one, Waiter, rest_node, Node, flag_for, is_in}
+use Rattle.lk_law.proofs.Names.{part, shown, Phase, has_node, leads, queues, Prepared, Waits}
+use Rattle.lk_law.proofs.Names.{QueueAgrees, Stage}
 use Rattle.lk_law.proofs.cna.Joined.{get-take, get-take_in, get_below, get-join, get-join_left}
 use Rattle.lk_law.proofs.cna.Parts.{part_cases, part_in, part_out, not_in, is_in-get, outside_part}
-use Rattle.lk_law.proofs.cna.Parts.{shown_else, shown_flag}
+use Rattle.lk_law.proofs.{cna.Parts.{shown_else, shown_flag}, cna.Steps.{HandsOver, IsHandedTo}}
+use Rattle.lk_law.proofs.common.Cases.{waiter_cases, node_cases}
 use Rattle.lk_law.proofs.queue.Move.{queue_move, GoesAside}
-use Rattle.lk_law.proofs.cna.Steps.{HandsOver, IsHandedTo}
-use Rattle.lk_rows.specs.rows.Cna.{flag_for}
+use Rattle.lk_law.specs.Phase.Phase.{Aside}
 
 pub get-skip : (k : ℕ) (main : List Waiter) (i : ℕ) (u : Waiter)
     → slice_get (take k (drop 1 main)) i ≡ Some u → (i < k) × (slice_get main (suc i) ≡ Some u)

@@ -1,30 +1,18 @@
 use Rattle.std.proofs.Common.{◌≡◌, ◌≢◌, ℕ, zero, suc, Option, Some, None, Bool, true, false, List}
 use Rattle.std.proofs.Common.{[], ◌∷◌, ◌++◌, ◌⊎◌, inl, inr, arith, ap, refl, sym, ◌∙◌, subst}
 use Rattle.std.proofs.Common.{slice_get}
-use Rattle.std.proofs.lemmas.Bool.{cases_Bool}
-use Rattle.lk_names.specs.declared.names.Waiter.{Waiter}
-use Rattle.lk_word.specs.declared.spin_word.NodeName.{NodeName}
-use Rattle.lk_rows.specs.declared.parts.Node.{Node}
-use Rattle.lk_rows.specs.Machine.{rest_node}
-use Rattle.lk_law.specs.Phase.{Phase, queues, leads, has_node}
-use Rattle.lk_law.specs.Snapshot.{Moves, Rewrites}
-use Rattle.lk_law.specs.Phase.Phase.{Prepared, Links, Waits, Holds}
-use Rattle.lk_law.specs.Stage.{Stage, cut_of, parted, picks}
-use Rattle.lk_law.specs.Cna.{CnaAgrees, FrontAgrees, is_in, part, shown, front_cut, front_tip}
-use Rattle.lk_law.specs.Cna.{named_by}
-use Rattle.lk_law.specs.Stage.Stage.{Rests, Counts, Picked, Cuts, Hangs, Picks}
-use Rattle.lk_law.proofs.common.Cases.{waiter_cases, node_cases, Apart}
-use Rattle.lk_names.proofs.ByIndex.{get_cases, get-append_old}
-use Rattle.lk_law.proofs.cna.Joined.{get_below}
-use Rattle.lk_law.proofs.cna.Parts.{part_cases, part_out, not_in, outside_part, shown_at}
-use Rattle.lk_law.proofs.cna.Parts.{shown_else, shown_flag, shown_same}
-use Rattle.lk_law.proofs.queue.Lead.{queue_lead}
-use Rattle.lk_law.proofs.queue.Keep.{queue_keep}
-use Rattle.lk_law.proofs.queue.Arrive.{arrive_behind}
-use Rattle.lk_law.proofs.queue.Link.{queue_link_at}
-use Rattle.lk_law.proofs.cna.Hand.{second_keep}
+use Rattle.lk_law.proofs.Names.{cases_Bool, NodeName, get-append_old, get_cases, Waiter, rest_node}
+use Rattle.lk_law.proofs.Names.{Node, CnaAgrees, FrontAgrees, front_cut, front_tip, is_in, named_by}
+use Rattle.lk_law.proofs.Names.{part, shown, Phase, has_node, leads, queues, Holds, Links, Prepared}
+use Rattle.lk_law.proofs.Names.{Waits, Moves, Rewrites, Stage, cut_of, parted, picks, Counts, Cuts}
+use Rattle.lk_law.proofs.Names.{Hangs, Picked, Picks, Rests}
+use Rattle.lk_law.proofs.{cna.Hand.second_keep, cna.Joined.get_below}
 use Rattle.lk_law.proofs.cna.Keep.{lead_keep, parted-at}
-use Rattle.lk_law.proofs.cna.Steps.{GoesAhead}
+use Rattle.lk_law.proofs.cna.Parts.{part_cases, part_out, not_in, outside_part, shown_at}
+use Rattle.lk_law.proofs.{cna.Parts.{shown_else, shown_flag, shown_same}, cna.Steps.GoesAhead}
+use Rattle.lk_law.proofs.common.Cases.{waiter_cases, node_cases, Apart}
+use Rattle.lk_law.proofs.{queue.Arrive.arrive_behind, queue.Keep.queue_keep, queue.Lead.queue_lead}
+use Rattle.lk_law.proofs.queue.Link.{queue_link_at}
 
 pub part_moves : (second : List Waiter) (phase phase' : Waiter → Phase) (x : Waiter) (r r' : Phase)
     → ((i : ℕ) → slice_get second i ≡ Some x → ⊥) → Moves phase phase' x r r'

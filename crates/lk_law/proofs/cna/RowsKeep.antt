@@ -1,57 +1,30 @@
 -- The rows of the choice of the next keep every sound world.
-use Rattle.lk_law.specs.Pv.Post.{Off}
-use Rattle.std.proofs.Common.{◌≡◌, ◌≢◌, ◌<◌, ◌⊎◌, inl, inr, ℕ, suc, Option, Some, None, Bool, true, []}
-use Rattle.std.proofs.Common.{false, ◌∷◌, arith, ap, refl, sym, ◌∙◌, slice_get}
-use Rattle.std.specs.Prelude.{if◌then◌else◌, is_some, ◌+◌}
-use Rattle.std.proofs.lemmas.Bool.{ltb-true}
-use Rattle.lk_names.specs.declared.names.Waiter.{Waiter}
-use Rattle.lk_word.specs.declared.spin_word.NodeName.{NodeName}
-use Rattle.lk_word.specs.declared.spin_word.Fields.{Fields}
-use Rattle.lk_rows.specs.declared.parts.Frame.{Frame}
-use Rattle.lk_rows.specs.declared.parts.Pc.{Pc}
-use Rattle.lk_rows.specs.declared.parts.Pc.TheVariants.{G5, G11, C1, C2, C3, C4, C5, C6, C7, C8}
-use Rattle.lk_rows.specs.declared.parts.Pc.TheVariants.{C9, C10}
-use Rattle.lk_rows.specs.declared.parts.Why.{Why}
-use Rattle.lk_rows.specs.declared.parts.Why.TheVariants as why
-use Rattle.lk_rows.specs.Moves.{node_of}
-use Rattle.lk_rows.specs.Row.{Effect, Nothing, A, B, K, T, Reason, Y, Second, learns_all}
-use Rattle.lk_rows.specs.rows.Cna.{may_stay, after_none, search_first, search_on, after_tail}
-use Rattle.lk_law.specs.Phase.Phase.{Holds}
-use Rattle.lk_law.specs.Stage.{Stage, tied, hangs}
-use Rattle.lk_law.specs.Stage.Stage.{Skips}
-use Rattle.lk_law.specs.Snapshot.{Snapshot}
-use Rattle.lk_law.specs.Cna.{CnaAgrees, moves_aside}
-use Rattle.lk_law.specs.Agree.{Knows}
-use Rattle.lk_law.specs.World.{World}
-use Rattle.lk_law.specs.Places.{snapshot, phase_of, phase_at, phase_if, stage_at, stage_why}
-use Rattle.lk_law.specs.Places.{stage_if, stage_on, kept_in}
-use Rattle.lk_law.specs.Families.{is_slow}
-use Rattle.lk_law.specs.Families.{chooses}
-use Rattle.lk_law.specs.Registers.{returns, knows_first}
-use Rattle.lk_law.specs.Registers.{knows_last, ChoiceFits}
-use Rattle.lk_law.specs.SpinWorld.{IsPlain}
-use Rattle.lk_law.specs.Steps.{lead_on, sight_in, stores_next}
-use Rattle.lk_law.specs.Steps.{stores_second}
-use Rattle.lk_law.specs.Places.{post_at, post_if, post_on}
-use Rattle.lk_law.specs.SpinLaws.{SpinRowKeeps}
-use Rattle.lk_law.proofs.spin.Laws.{law_same, step_same}
-use Rattle.lk_law.proofs.cna.Laws.{Twofold, here, front, law_search}
-use Rattle.lk_law.proofs.cna.Front.{tail_known}
+use Rattle.std.proofs.Common.{◌≡◌, ◌≢◌, ◌<◌, ◌⊎◌, inl, inr, ℕ, suc, Option, Some, None, Bool, true}
+use Rattle.std.proofs.Common.{[], false, ◌∷◌, arith, ap, refl, sym, ◌∙◌, slice_get, if◌then◌else◌}
+use Rattle.std.proofs.Common.{is_some, ◌+◌}
+use Rattle.lk_law.proofs.Names.{ltb-true, Fields, NodeName, Waiter, node_of, A, B, Effect, K}
+use Rattle.lk_law.proofs.Names.{Nothing, Reason, Y, Frame, Pc, C1, C2, C3, C4, C5, C6, C7, C8, C9}
+use Rattle.lk_law.proofs.Names.{C10, G5, G11, Why, after_none, after_tail, may_stay, search_first}
+use Rattle.lk_law.proofs.Names.{search_on, Knows, CnaAgrees, moves_aside, chooses, is_slow, Holds}
+use Rattle.lk_law.proofs.Names.{kept_in, phase_at, phase_if, phase_of, post_at, post_if, post_on}
+use Rattle.lk_law.proofs.Names.{snapshot, stage_at, stage_if, stage_on, stage_why, Off, ChoiceFits}
+use Rattle.lk_law.proofs.Names.{Snapshot, SpinRowKeeps, IsPlain, Stage, hangs, tied, Skips, lead_on}
+use Rattle.lk_law.proofs.Names.{sight_in, stores_next, stores_second, World}
+use Rattle.lk_rows.specs.Row.{T, Second, learns_all}
+use Rattle.lk_law.proofs.{cna.Front.tail_known, cna.Laws.{Twofold, here, front, law_search}}
 use Rattle.lk_law.proofs.cna.Scan.{c1_skip, c1_pick, c1_flush, c1_promote, c2_skip, c2_meet}
-use Rattle.lk_law.proofs.cna.Scan.{c2_first, c2_flush, c2_pick}
+use Rattle.lk_law.proofs.{cna.Scan.{c2_first, c2_flush, c2_pick}, cna.Seen.seen_as}
 use Rattle.lk_law.proofs.cna.Tails.{c3_append, c3_flush, c3_promote}
-use Rattle.lk_law.proofs.common.Puts.{if_cases}
-use Rattle.lk_law.proofs.common.Users.{some_is}
-use Rattle.lk_law.proofs.spin.PendingRowsKeep.{none_is}
-use Rattle.lk_law.proofs.common.Worlds.{stage_on-here, post_on-off}
-use Rattle.lk_law.proofs.common.Turns.{Turn, same_turn}
-use Rattle.lk_law.proofs.common.Choices.{choosing}
-use Rattle.lk_law.proofs.common.TurnSteps.{turn_stage, turn_kept, turn_post}
 use Rattle.lk_law.proofs.common.Acting.{Acting, StandsAwake, Kept, spin_row_keeps, fit_here}
-use Rattle.lk_law.proofs.common.Acting.{phase_here}
-use Rattle.lk_law.proofs.common.Acting.{phase_shown, own_here, slow_here, Going, gone_on}
-use Rattle.lk_law.proofs.common.Acting.{going_step, going_stays, goes_kept, awake_here}
-use Rattle.lk_law.proofs.cna.Seen.{seen_as}
+use Rattle.lk_law.proofs.common.Acting.{phase_here, phase_shown, own_here, slow_here, Going}
+use Rattle.lk_law.proofs.common.Acting.{gone_on, going_step, going_stays, goes_kept, awake_here}
+use Rattle.lk_law.proofs.{common.Choices.choosing, common.Puts.if_cases}
+use Rattle.lk_law.proofs.common.TurnSteps.{turn_stage, turn_kept, turn_post}
+use Rattle.lk_law.proofs.{common.Turns.{Turn, same_turn}, common.Users.some_is}
+use Rattle.lk_law.proofs.common.Worlds.{stage_on-here, post_on-off}
+use Rattle.lk_law.proofs.{spin.Laws.{law_same, step_same}, spin.PendingRowsKeep.none_is}
+use Rattle.lk_law.specs.Registers.{returns, knows_first, knows_last}
+use Rattle.lk_rows.specs.declared.parts.Why.TheVariants as why
 
 -- a row of the choice is one of a front that holds the lock
 record IsChoice (c : Pc) : Type 0 where

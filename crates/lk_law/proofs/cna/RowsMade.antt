@@ -1,24 +1,15 @@
 -- What each row of the choice makes of a world.
-use Rattle.std.proofs.Common.{Option, Some, None, refl, [], ◌∷◌}
-use Rattle.std.specs.Prelude.{◌+◌, is_some, if◌then◌else◌}
-use Rattle.lk_names.specs.declared.names.LockName.{LockName}
-use Rattle.lk_word.specs.declared.spin_word.NodeName.{NodeName}
-use Rattle.lk_word.specs.declared.spin_word.Fields.{Fields}
-use Rattle.lk_rows.specs.declared.parts.Frame.{Frame}
-use Rattle.lk_rows.specs.declared.parts.Pc.TheVariants.{C1, C2, C3, C4, C5, C6, C7, C8, C9, C10}
-use Rattle.lk_rows.specs.declared.parts.Why.{Why}
-use Rattle.lk_rows.specs.Moves.{node_of}
-use Rattle.lk_rows.specs.Row.{A, B, K, Reason, Y, Second, learns_all}
-use Rattle.lk_rows.specs.rows.Cna.{Sight, search_row, second_row, runs_row, handover_row}
-use Rattle.lk_rows.specs.rows.Cna.{promotion_row, may_stay, after_none, search_first, search_on}
-use Rattle.lk_rows.specs.rows.Cna.{after_tail, is_last}
-use Rattle.lk_law.specs.Steps.{sight_in}
+use Rattle.std.proofs.Common.{Option, Some, None, refl, [], ◌∷◌, ◌+◌, is_some, if◌then◌else◌}
+use Rattle.lk_law.proofs.Names.{Fields, NodeName, LockName, node_of, A, B, K, Reason, Y, Frame, C1}
+use Rattle.lk_law.proofs.Names.{C2, C3, C4, C5, C6, C7, C8, C9, C10, Why, Sight, after_none}
+use Rattle.lk_law.proofs.Names.{after_tail, is_last, may_stay, search_first, search_on, Taking}
+use Rattle.lk_law.proofs.Names.{sight_in}
+use Rattle.lk_rows.specs.Row.{Second, learns_all}
+use Rattle.lk_rows.specs.rows.Cna.{search_row, second_row, runs_row, handover_row, promotion_row}
 use Rattle.lk_law.proofs.common.Puts.{if_cases}
-use Rattle.lk_law.proofs.rw.Else.{IsIn}
-use Rattle.lk_law.specs.SoundWorld.Part.{Taking}
-use Rattle.lk_law.proofs.common.RowsMade.{Good, RowMakes, good_if, onward}
+use Rattle.lk_law.proofs.common.RowsMade.{Good, RowMakes, good_if, onward, word_made, flag_made}
+use Rattle.lk_law.proofs.{common.RowsMade.{next_made, second_made, runs_made}, rw.Else.IsIn}
 use Rattle.lk_rows.specs.declared.parts.Why.TheVariants as why
-use Rattle.lk_law.proofs.common.RowsMade.{word_made, flag_made, next_made, second_made, runs_made}
 
 -- the rows of the choice
 

@@ -2,19 +2,11 @@
 -- gives up.
 use Rattle.std.proofs.Common.{◌≡◌, ◌≢◌, ℕ, suc, Option, Some, None, Bool, true, false, List, []}
 use Rattle.std.proofs.Common.{◌⊎◌, inl, inr, arith, ap, refl, sym, ◌∙◌, subst, ◌<◌, slice_get}
-use Rattle.std.proofs.lemmas.Bool.{cases_lt}
-use Rattle.lk_names.specs.declared.names.Waiter.{Waiter}
-use Rattle.lk_word.specs.declared.spin_word.NodeName.{NodeName}
-use Rattle.lk_rows.specs.declared.parts.Node.{Node}
-use Rattle.lk_law.specs.Phase.{Phase}
-use Rattle.lk_law.specs.Phase.Phase.{Holds, Waits}
-use Rattle.lk_law.specs.Stage.{Stage}
-use Rattle.lk_law.specs.Cna.{CnaAgrees}
-use Rattle.lk_law.specs.Stage.Stage.{Rests, Skips, Meets, Ties, Picks, Flushes, Promotes}
+use Rattle.lk_law.proofs.Names.{cases_lt, NodeName, Waiter, Node, CnaAgrees, Phase, Holds, Waits}
+use Rattle.lk_law.proofs.Names.{Stage, Flushes, Meets, Picks, Promotes, Rests, Skips, Ties}
 use Rattle.lk_law.proofs.cna.Front.{front_lead}
-use Rattle.lk_law.proofs.cna.Look.{skip-k, pick-k, look-next, look-a, look-b, look-turn}
+use Rattle.lk_law.proofs.cna.Look.{skip-k, pick-k, look-next, look-a, look-b, look-turn, look-pick}
 use Rattle.lk_law.proofs.cna.Parts.{nobody-first}
-use Rattle.lk_law.proofs.cna.Look.{look-pick}
 
 module _ {tail : Option NodeName} {phase : Waiter → Phase} {own : Waiter → NodeName}
     {node : NodeName → Node} {local : Waiter → Waiter → Bool} {threshold : ℕ}

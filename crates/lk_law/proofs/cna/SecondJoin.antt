@@ -1,12 +1,6 @@
 use Rattle.std.proofs.Common.{◌≡◌, ℕ, suc, Some, None, List, ◌++◌, inl, inr, arith, ap, sym, ◌∙◌}
 use Rattle.std.proofs.Common.{slice_get}
-use Rattle.lk_names.specs.declared.names.Waiter.{Waiter}
-use Rattle.lk_word.specs.declared.spin_word.NodeName.{NodeName}
-use Rattle.lk_rows.specs.declared.parts.Node.{Node}
-use Rattle.lk_rows.specs.declared.parts.Flag.TheVariants.{Unset}
-use Rattle.lk_law.specs.Phase.{Phase}
-use Rattle.lk_law.specs.Phase.Phase.{Waits}
-use Rattle.lk_law.specs.Cna.{SecondAgrees}
+use Rattle.lk_law.proofs.Names.{NodeName, Waiter, Unset, Node, SecondAgrees, Phase, Waits}
 use Rattle.lk_law.proofs.cna.Joined.{get-join, get-join_two, get-join_last}
 
 -- The waiters of part, which begins with z, come to stand behind the second queue.

@@ -1,17 +1,8 @@
 -- Which node a front sees as local.
-use Rattle.std.proofs.Common.{◌≡◌, Bool}
-use Rattle.std.proofs.Common.{ap, sym, ◌∙◌, subst}
-use Rattle.lk_names.specs.Lawful.{is_local}
-use Rattle.lk_names.specs.declared.names.Waiter.{Waiter}
-use Rattle.lk_word.specs.declared.spin_word.NodeName.{NodeName}
-use Rattle.lk_rows.specs.declared.parts.Pc.{Pc}
-use Rattle.lk_law.specs.Phase.{has_node}
-use Rattle.lk_law.specs.Phase.Phase.{Waits}
-use Rattle.lk_law.specs.Premises.{Uses}
-use Rattle.lk_law.specs.Places.{snapshot}
-use Rattle.lk_law.specs.Steps.{sight_in}
-use Rattle.lk_law.proofs.common.Users.{user_of, user_found}
-use Rattle.lk_law.proofs.common.Acting.{Acting, StandsAwake}
+use Rattle.std.proofs.Common.{◌≡◌, Bool, ap, sym, ◌∙◌, subst}
+use Rattle.lk_law.proofs.Names.{NodeName, is_local, Waiter, Pc, has_node, Waits, snapshot, Uses}
+use Rattle.lk_law.proofs.Names.{sight_in}
+use Rattle.lk_law.proofs.{common.Acting.{Acting, StandsAwake}, common.Users.{user_of, user_found}}
 
 -- what a front sees of a node it sees of the waiter that waits with it
 pub seen_as : {a : Acting} {c : Pc} (at : StandsAwake a c) (n : NodeName) (b : Bool)

@@ -1,18 +1,10 @@
 -- What a row changes of the lists of one lock: for each kind of row a record that names its facts.
 -- Primed are what stands after the row.
 use Rattle.std.proofs.Common.{◌≡◌, ◌≢◌, ℕ, suc, Option, Some, None, true, false, List, [], ◌⊎◌}
-use Rattle.std.proofs.Common.{◌++◌, ◌+◌, ◌<◌, slice_get, drop, take}
-use Rattle.std.specs.Prelude.{if◌then◌else◌}
-use Rattle.lk_names.specs.declared.names.Waiter.{Waiter}
-use Rattle.lk_word.specs.declared.spin_word.NodeName.{NodeName}
-use Rattle.lk_rows.specs.declared.parts.Node.{Node}
-use Rattle.lk_rows.specs.rows.Cna.{flag_for}
-use Rattle.lk_law.specs.Phase.{Phase, leads, queues}
-use Rattle.lk_law.specs.Phase.Phase.{Waits, Hands, Idle, Holds}
-use Rattle.lk_law.specs.Snapshot.{Moves, Rewrites}
-use Rattle.lk_law.specs.Stage.{Stage, cut_of, tip_of, parted, picks, tail_seen, tied}
-use Rattle.lk_law.specs.Stage.Stage.{Rests, Picks}
-use Rattle.lk_law.specs.Cna.{named_by, first_node, same_none}
+use Rattle.std.proofs.Common.{◌++◌, ◌+◌, ◌<◌, slice_get, drop, take, if◌then◌else◌}
+use Rattle.lk_law.proofs.Names.{NodeName, Waiter, Node, flag_for, first_node, named_by, same_none}
+use Rattle.lk_law.proofs.Names.{Phase, leads, queues, Hands, Holds, Idle, Waits, Moves, Rewrites}
+use Rattle.lk_law.proofs.Names.{Stage, cut_of, parted, picks, tail_seen, tied, tip_of, Picks, Rests}
 use Rattle.lk_law.proofs.common.Cases.{Apart}
 
 -- Others act, and w leads still: those that wait keep their nodes, the queue may get longer, and no

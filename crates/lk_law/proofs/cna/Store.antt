@@ -1,22 +1,15 @@
 use Rattle.std.proofs.Common.{◌≡◌, ◌≢◌, ℕ, suc, Option, Some, None, Bool, true, false, List, []}
 use Rattle.std.proofs.Common.{◌∷◌, inl, inr, arith, ap, refl, sym, ◌∙◌, subst, ◌+◌, slice_get}
-use Rattle.std.specs.Prelude.{if◌then◌else◌}
-use Rattle.lk_names.specs.declared.names.Waiter.{Waiter}
-use Rattle.lk_word.specs.declared.spin_word.NodeName.{NodeName}
-use Rattle.lk_rows.specs.declared.parts.Node.{Node}
-use Rattle.lk_law.specs.Phase.{Phase, queues, has_node}
-use Rattle.lk_law.specs.Snapshot.{Rewrites, QueueAgrees}
-use Rattle.lk_law.specs.Phase.Phase.{Prepared, Waits, Holds}
-use Rattle.lk_law.specs.Stage.{Stage, cut_of, tip_of, passed_over, chosen, tied}
-use Rattle.lk_law.specs.Cna.{CnaAgrees, FrontAgrees, SecondAgrees, is_in, part, shown, same_none}
-use Rattle.lk_law.specs.Cna.{first_node}
-use Rattle.lk_law.specs.Stage.Stage.{Counts, Picked, Tips, Ties, Cuts, Hangs, Picks}
-use Rattle.lk_law.proofs.common.Cases.{node_cases, Apart}
-use Rattle.lk_names.proofs.ByIndex.{last_cases}
-use Rattle.lk_law.proofs.cna.Parts.{part_cases, part_out, not_in, shown_at, shown_else, shown_flag}
-use Rattle.lk_law.proofs.cna.Parts.{shown_same}
-use Rattle.lk_law.proofs.cna.Look.{queue_same, stage_turn}
+use Rattle.std.proofs.Common.{if◌then◌else◌}
+use Rattle.lk_law.proofs.Names.{NodeName, last_cases, Waiter, Node, CnaAgrees, FrontAgrees}
+use Rattle.lk_law.proofs.Names.{SecondAgrees, first_node, is_in, part, same_none, shown, Phase}
+use Rattle.lk_law.proofs.Names.{has_node, queues, Holds, Prepared, Waits, QueueAgrees, Rewrites}
+use Rattle.lk_law.proofs.Names.{Stage, chosen, cut_of, passed_over, tied, tip_of, Counts, Cuts}
+use Rattle.lk_law.proofs.Names.{Hangs, Picked, Picks, Ties, Tips}
 use Rattle.lk_law.proofs.cna.Front.{front_lead, front_queue, front_second}
+use Rattle.lk_law.proofs.cna.Look.{queue_same, stage_turn}
+use Rattle.lk_law.proofs.cna.Parts.{part_cases, part_out, not_in, shown_at, shown_else, shown_flag}
+use Rattle.lk_law.proofs.{cna.Parts.shown_same, common.Cases.{node_cases, Apart}}
 
 shown_next : (c : Option (NodeName × NodeName)) (node node' : NodeName → Node) (n : NodeName)
     → (node' n).next ≡ (node n).next → (shown c node' n).next ≡ (shown c node n).next

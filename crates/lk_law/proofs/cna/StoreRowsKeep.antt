@@ -1,43 +1,21 @@
 -- The rows of the choice that store into a node keep every sound world.
 use Rattle.std.proofs.Common.{◌≡◌, ◌≢◌, inl, inr, ℕ, suc, Option, Some, None, true, false, arith}
-use Rattle.std.proofs.Common.{ap, refl, sym, ◌∙◌}
-use Rattle.std.specs.Prelude.{if◌then◌else◌, is_some, ◌==◌, ◌+◌, ◌<◌, ◌≤◌}
-use Rattle.std.proofs.lemmas.Bool.{cases_Bool}
-use Rattle.lk_names.specs.declared.names.Waiter.{Waiter}
-use Rattle.lk_word.specs.declared.spin_word.NodeName.{NodeName}
-use Rattle.lk_rows.specs.declared.parts.Node.{Node}
-use Rattle.lk_rows.specs.declared.parts.Frame.{Frame}
-use Rattle.lk_rows.specs.declared.parts.Pc.{Pc}
-use Rattle.lk_rows.specs.declared.parts.Pc.TheVariants.{C4, C5, C6, C7, C8}
-use Rattle.lk_rows.specs.Moves.{node_of}
-use Rattle.lk_rows.specs.Row.{Nothing}
-use Rattle.lk_law.specs.Phase.Phase.{Holds}
-use Rattle.lk_law.specs.Stage.{passed_over}
-use Rattle.lk_law.specs.Stage.Stage.{Hangs, Counts, Picks, Picked}
-use Rattle.lk_law.specs.Snapshot.{Snapshot}
-use Rattle.lk_law.specs.Cna.{same_none}
-use Rattle.lk_law.specs.Places.{snapshot, stage_at, stage_if}
-use Rattle.lk_law.specs.Families.{chooses}
-use Rattle.lk_law.specs.Registers.{ChoiceFits}
-use Rattle.lk_law.specs.Steps.{put_node}
-use Rattle.lk_law.specs.SpinLaws.{SpinRowKeeps}
-use Rattle.lk_law.proofs.queue.Laws.{apart_on}
-use Rattle.lk_law.proofs.cna.Laws.{away, law_search}
-use Rattle.lk_law.proofs.common.Families.{Last}
-use Rattle.lk_law.proofs.cna.Knows.{run_is_short}
+use Rattle.std.proofs.Common.{ap, refl, sym, ◌∙◌, if◌then◌else◌, is_some, ◌==◌, ◌+◌, ◌<◌, ◌≤◌}
+use Rattle.lk_law.proofs.Names.{cases_Bool, NodeName, Waiter, node_of, Nothing, Frame, Node, Pc, C4}
+use Rattle.lk_law.proofs.Names.{C5, C6, C7, C8, same_none, chooses, Holds, snapshot, stage_at}
+use Rattle.lk_law.proofs.Names.{stage_if, ChoiceFits, Snapshot, SpinRowKeeps, passed_over, Counts}
+use Rattle.lk_law.proofs.Names.{Hangs, Picked, Picks, put_node}
 use Rattle.lk_law.proofs.cna.Front.{front_lead, owner_next, owner_last, owner_tail, owner_moved}
-use Rattle.lk_law.proofs.cna.Store.{c4_tie, c5_cut, c6_hang, c7_count, c7_plain}
-use Rattle.lk_law.proofs.common.Puts.{if-true, if-false, put_rewrites}
-use Rattle.lk_law.proofs.common.Users.{some_is}
-use Rattle.lk_law.proofs.common.Turns.{node_turn}
-use Rattle.lk_law.proofs.common.TurnSteps.{node_plain, turn_stage, turn_kept}
-use Rattle.lk_law.proofs.common.Choices.{choosing}
-use Rattle.lk_law.proofs.common.Acting.{Acting, StandsAwake, Kept, spin_row_keeps, fit_here}
-use Rattle.lk_law.proofs.common.Acting.{own_here}
-use Rattle.lk_law.proofs.common.Acting.{Going, gone_on, going_step, going_stays, goes_kept}
-use Rattle.lk_law.proofs.common.Acting.{awake_here}
+use Rattle.lk_law.proofs.{cna.Knows.run_is_short, cna.Laws.{away, law_search}}
 use Rattle.lk_law.proofs.cna.RowsKeep.{After, choice_going, aside_here, holds_shown, stage_shown}
 use Rattle.lk_law.proofs.cna.RowsKeep.{kept_shown, lists_here, front_here}
+use Rattle.lk_law.proofs.cna.Store.{c4_tie, c5_cut, c6_hang, c7_count, c7_plain}
+use Rattle.lk_law.proofs.common.Acting.{Acting, StandsAwake, Kept, spin_row_keeps, fit_here}
+use Rattle.lk_law.proofs.common.Acting.{own_here, Going, gone_on, going_step, going_stays}
+use Rattle.lk_law.proofs.{common.Acting.{goes_kept, awake_here}, common.Choices.choosing}
+use Rattle.lk_law.proofs.{common.Families.Last, common.Puts.{if-true, if-false, put_rewrites}}
+use Rattle.lk_law.proofs.common.TurnSteps.{node_plain, turn_stage, turn_kept}
+use Rattle.lk_law.proofs.{common.Turns.node_turn, common.Users.some_is, queue.Laws.apart_on}
 
 -- the front stores y into the node n, and goes on
 module _ {a : Acting} {c : Pc} (at : StandsAwake a c) (on : chooses c ≡ true) (g : Frame) (d : Pc)

@@ -2,16 +2,9 @@
 -- fails at C10.
 use Rattle.std.proofs.Common.{◌≡◌, ◌≢◌, ℕ, Option, Some, Bool, List, [], inl, ap, refl, sym, ◌∙◌}
 use Rattle.std.proofs.Common.{slice_get}
-use Rattle.lk_names.specs.declared.names.Waiter.{Waiter}
-use Rattle.lk_word.specs.declared.spin_word.NodeName.{NodeName}
-use Rattle.lk_rows.specs.declared.parts.Node.{Node}
-use Rattle.lk_law.specs.Phase.{Phase}
-use Rattle.lk_law.specs.Phase.Phase.{Holds}
-use Rattle.lk_law.specs.Stage.{Stage}
-use Rattle.lk_law.specs.Cna.{CnaAgrees}
-use Rattle.lk_law.specs.Stage.Stage.{Rests, Meets, Tips, Flushes, Flushing, Promotes, Promoting}
-use Rattle.lk_law.proofs.cna.Front.{front_lead}
-use Rattle.lk_law.proofs.cna.Joined.{nonempty}
+use Rattle.lk_law.proofs.Names.{NodeName, Waiter, Node, CnaAgrees, Phase, Holds, Stage, Flushes}
+use Rattle.lk_law.proofs.Names.{Flushing, Meets, Promotes, Promoting, Rests, Tips}
+use Rattle.lk_law.proofs.{cna.Front.front_lead, cna.Joined.nonempty}
 use Rattle.lk_law.proofs.cna.Look.{look-some, look-named, look-turn}
 
 module _ {tail : Option NodeName} {phase : Waiter → Phase} {own : Waiter → NodeName}

@@ -1,26 +1,18 @@
 use Rattle.std.proofs.Common.{◌≡◌, ◌≢◌, ℕ, suc, Option, Some, None, Bool, true, false, List, []}
 use Rattle.std.proofs.Common.{◌∷◌, ◌++◌, inl, inr, arith, ap, refl, sym, ◌∙◌, subst, ◌<◌, slice_get}
-use Rattle.std.proofs.Common.{drop, take, replicate}
-use Rattle.std.specs.Prelude.{map}
-use Rattle.lk_names.specs.declared.names.Waiter.{Waiter}
-use Rattle.lk_word.specs.declared.spin_word.NodeName.{NodeName}
-use Rattle.lk_rows.specs.declared.parts.Node.{Node}
-use Rattle.lk_law.specs.Phase.{Phase, queues, has_node}
-use Rattle.lk_law.specs.Snapshot.{QueueAgrees}
-use Rattle.lk_law.specs.Phase.Phase.{Waits}
-use Rattle.lk_law.specs.Stage.{Stage, cut_of, tip_of, passed_over, parted, chosen, told_runs, tied}
-use Rattle.lk_law.specs.Stage.{picks}
-use Rattle.lk_law.specs.Stage.{hangs}
-use Rattle.lk_law.specs.Cna.{CnaAgrees, FrontAgrees, SecondAgrees, is_in, part, shown, front_cut}
-use Rattle.lk_law.specs.Cna.{front_tip, named_by, first_node}
-use Rattle.lk_law.specs.Stage.Stage.{Counts, Picked}
-use Rattle.lk_names.proofs.ByIndex.{get-drop_one, last_cases}
+use Rattle.std.proofs.Common.{drop, take, replicate, map}
+use Rattle.lk_law.proofs.Names.{NodeName, get-drop_one, last_cases, Waiter, Node, CnaAgrees}
+use Rattle.lk_law.proofs.Names.{FrontAgrees, SecondAgrees, first_node, front_cut, front_tip, is_in}
+use Rattle.lk_law.proofs.Names.{named_by, part, shown, Phase, has_node, queues, Waits, QueueAgrees}
+use Rattle.lk_law.proofs.Names.{Stage, chosen, cut_of, hangs, parted, passed_over, picks, tied}
+use Rattle.lk_law.proofs.Names.{tip_of, Counts, Picked}
+use Rattle.lk_law.proofs.cna.Hand.{second_keep, append-nil, c8_all}
 use Rattle.lk_law.proofs.cna.Joined.{get-take_none, get_below}
 use Rattle.lk_law.proofs.cna.Parts.{part_out, not_in, shown_else, shown_flag}
-use Rattle.lk_law.proofs.cna.SecondJoin.{second_join, IsAppended}
 use Rattle.lk_law.proofs.cna.Pass.{get-skip, skip-in, c8-main, c8-same}
-use Rattle.lk_law.proofs.cna.Hand.{second_keep, append-nil, c8_all}
+use Rattle.lk_law.proofs.cna.SecondJoin.{second_join, IsAppended}
 use Rattle.lk_law.proofs.cna.Steps.{HandsOver, IsHandedTo, KnowsMoved}
+use Rattle.lk_law.specs.Stage.{told_runs}
 
 -- rows C8, with the registers of the one that leads
 module _ {tail : Option NodeName} {phase phase' : Waiter → Phase} {own own' : Waiter → NodeName}

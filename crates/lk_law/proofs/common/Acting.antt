@@ -1,61 +1,27 @@
 -- A frame at a row of a sound world, and what becomes of the world after the row.
 use Rattle.std.proofs.Common.{◌≡◌, ◌≢◌, ◌⊎◌, inl, inr, ℕ, Option, Some, None, Bool, true, false, []}
-use Rattle.std.proofs.Common.{arith, ap, ◌-◌, ◌<◌, refl, sym, ◌∙◌, subst}
-use Rattle.std.specs.Prelude.{if◌then◌else◌, is_some, ◌≤◌}
-use Rattle.lk_names.specs.History.{LockHistory}
-use Rattle.lk_names.specs.declared.holder.Manner.{Manner}
-use Rattle.lk_names.specs.Lawful.{Rules}
-use Rattle.lk_names.specs.declared.names.Waiter.{Waiter}
-use Rattle.lk_names.specs.declared.names.LockName.{LockName}
-use Rattle.lk_names.specs.declared.names.Mode.{Mode}
-use Rattle.lk_word.specs.declared.spin_word.NodeName.{NodeName}
-use Rattle.lk_word.specs.declared.spin_word.Locked.TheVariants.{Slow}
-use Rattle.lk_word.specs.declared.spin_word.Fields.{Fields}
-use Rattle.lk_rows.specs.declared.parts.Flag.TheVariants.{Second}
-use Rattle.lk_rows.specs.declared.parts.Node.{Node}
-use Rattle.lk_rows.specs.declared.parts.Frame.{Frame}
-use Rattle.lk_rows.specs.declared.parts.Pc.{Pc}
-use Rattle.lk_rows.specs.declared.parts.Pc.TheVariants.{G5, G11, C2, C3, C4, C5, C6, C7, C8, C9}
-use Rattle.lk_rows.specs.declared.parts.Pc.TheVariants.{C10}
-use Rattle.lk_rows.specs.Moves.{node_of}
-use Rattle.lk_rows.specs.Row.{Tell, Nothing, Goes, Granted, Leaves}
-use Rattle.lk_law.specs.Phase.{Phase, has_node, seeks}
-use Rattle.lk_law.specs.Phase.Phase.{Idle, Releases}
-use Rattle.lk_law.specs.Stage.Stage.{Rests}
-use Rattle.lk_law.specs.Cna.{moves_aside}
-use Rattle.lk_law.specs.Snapshot.{spins}
-use Rattle.lk_law.specs.Agree.{SnapshotAgrees, Step, Stays, LeavesSlowPath, halts}
-use Rattle.lk_law.specs.World.{World}
-use Rattle.lk_law.specs.Places.{snapshot, phase_of, phase_at, phase_if, phase_on}
-use Rattle.lk_law.specs.Families.{is_slow}
-use Rattle.lk_law.specs.Places.{own_in, slow_in}
-use Rattle.lk_law.specs.Steps.{put_word, put_node, put_queued, led, lead_on}
-use Rattle.lk_law.specs.Steps.{row_in}
-use Rattle.lk_law.specs.Places.{post_at, post_if, stage_at, stage_if, kept_in}
-use Rattle.lk_law.specs.Families.{chooses}
-use Rattle.lk_law.specs.Families.{may_halt}
-use Rattle.lk_law.specs.Registers.{hands_plainly, is_unaware, ChoiceFits, RegistersFit}
-use Rattle.lk_law.specs.SpinWorld.{IsPlain, IsSoundSpinWorld}
-use Rattle.lk_law.specs.Steps.{told_event, told_on}
-use Rattle.lk_law.specs.Registers.{IsQuiet}
-use Rattle.lk_law.specs.Places.{post_of}
-use Rattle.lk_law.specs.Families.{stays_awake}
-use Rattle.lk_law.specs.Premises.{IsNewest, GoesTo, FollowsRules, IsThen}
-use Rattle.lk_law.specs.SpinLaws.{SpinRowKeeps}
-use Rattle.lk_law.specs.Allowed.{MayFollowIfAny}
-use Rattle.lk_law.proofs.spin.Laws.{law_same, step_same}
-use Rattle.lk_law.proofs.common.Puts.{put_word-here, put_number-here, put_number-else}
+use Rattle.std.proofs.Common.{arith, ap, ◌-◌, ◌<◌, refl, sym, ◌∙◌, subst, if◌then◌else◌, is_some}
+use Rattle.std.proofs.Common.{◌≤◌}
+use Rattle.lk_law.proofs.Names.{Fields, Slow, NodeName, LockHistory, Rules, Manner, LockName, Mode}
+use Rattle.lk_law.proofs.Names.{Waiter, node_of, Goes, Granted, Leaves, Nothing, Tell, Second}
+use Rattle.lk_law.proofs.Names.{Frame, Node, Pc, C2, C3, C4, C5, C6, C7, C8, C9, C10, G5, G11}
+use Rattle.lk_law.proofs.Names.{LeavesSlowPath, SnapshotAgrees, Stays, Step, halts, MayFollowIfAny}
+use Rattle.lk_law.proofs.Names.{moves_aside, chooses, is_slow, may_halt, stays_awake, Phase}
+use Rattle.lk_law.proofs.Names.{has_node, seeks, Idle, Releases, kept_in, own_in, phase_at}
+use Rattle.lk_law.proofs.Names.{phase_if, phase_of, phase_on, post_at, post_if, post_of, slow_in}
+use Rattle.lk_law.proofs.Names.{snapshot, stage_at, stage_if, IsNewest, IsThen, at_halt, Off}
+use Rattle.lk_law.proofs.Names.{ChoiceFits, IsQuiet, RegistersFit, hands_plainly, is_unaware, spins}
+use Rattle.lk_law.proofs.Names.{SpinRowKeeps, IsPlain, IsSoundSpinWorld, Rests, lead_on, led}
+use Rattle.lk_law.proofs.Names.{put_node, put_queued, put_word, row_in, told_event, told_on, World}
 use Rattle.lk_law.proofs.common.Before.{before_lt}
-use Rattle.lk_law.proofs.common.Worlds.{phase_on-here, idle_off, sleeper_halts}
+use Rattle.lk_law.proofs.common.Choices.{fit_goes, fixed_choice, fit_quiet, quiet_none, quiet_then}
+use Rattle.lk_law.proofs.common.Puts.{put_word-here, put_number-here, put_number-else}
+use Rattle.lk_law.proofs.common.TurnSteps.{word_plain, node_plain, turn_knows, turn_kept, turn_step}
+use Rattle.lk_law.proofs.common.TurnSteps.{turn_stays, turn_leaves, turn_sound}
 use Rattle.lk_law.proofs.common.Turns.{Turn, turned, same_turn, word_turn, node_turn}
-use Rattle.lk_law.proofs.common.TurnSteps.{word_plain}
-use Rattle.lk_law.proofs.common.TurnSteps.{node_plain, turn_knows, turn_kept}
-use Rattle.lk_law.proofs.common.Choices.{fit_goes, fixed_choice}
-use Rattle.lk_law.proofs.common.TurnSteps.{turn_step, turn_stays, turn_leaves, turn_sound}
-use Rattle.lk_law.proofs.common.Choices.{fit_quiet}
-use Rattle.lk_law.proofs.common.Choices.{quiet_none, quiet_then}
-use Rattle.lk_law.specs.Pv.{at_halt}
-use Rattle.lk_law.specs.Pv.Post.{Off}
+use Rattle.lk_law.proofs.common.Worlds.{phase_on-here, idle_off, sleeper_halts}
+use Rattle.lk_law.proofs.spin.Laws.{law_same, step_same}
+use Rattle.lk_law.specs.Premises.{GoesTo, FollowsRules}
 
 -- who acts, and where: a world, what its locks' histories are, and the frame of a waiter; and to
 -- whom the lead goes, if it does

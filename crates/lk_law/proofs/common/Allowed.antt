@@ -1,28 +1,17 @@
 -- Each event that a row tells is allowed on the histories before it.
 use Rattle.std.proofs.Common.{◌≡◌, Option, Some, None, true, false, List, arith, ap, refl, sym, ◌∙◌}
 use Rattle.std.proofs.Common.{subst, slice_get}
-use Rattle.lk_names.specs.History.{LockHistory, taken, with_holder, lock_of}
-use Rattle.lk_names.specs.declared.holder.Manner.TheVariants.{Spins}
-use Rattle.lk_names.specs.declared.holder.Holder.{Holder}
-use Rattle.lk_names.specs.Lawful.{Rules, IsShared, Holds, IsOutside, IsFront, TakesInOrder}
-use Rattle.lk_names.specs.declared.names.Waiter.{Waiter}
-use Rattle.lk_names.specs.declared.names.LockName.{LockName}
-use Rattle.lk_names.specs.declared.events.Event.{Event}
-use Rattle.lk_names.specs.declared.events.How.{How}
-use Rattle.lk_names.specs.declared.events.How.TheVariants.{Pending, Head, Sole}
-use Rattle.lk_names.specs.declared.events.What.TheVariants.{Take, Miss, Release, Arrive, Pass}
-use Rattle.lk_word.specs.declared.spin_word.NodeName.{NodeName}
-use Rattle.lk_word.specs.declared.spin_word.Locked.TheVariants.{Free}
-use Rattle.lk_law.specs.Phase.{has_node, queues, leads}
-use Rattle.lk_law.specs.Phase.Phase.{Releases, Claims, Prepared, Stakes, Hands}
-use Rattle.lk_law.specs.Snapshot.{Snapshot}
-use Rattle.lk_law.specs.Agree.{SnapshotAgrees, sole}
-use Rattle.lk_law.specs.Allowed.{MayFollow, MayFollowOn}
+use Rattle.lk_law.proofs.Names.{Free, NodeName, LockHistory, lock_of, taken, with_holder, IsFront}
+use Rattle.lk_law.proofs.Names.{IsOutside, IsShared, Rules, TakesInOrder, Event, How, Head, Arrive}
+use Rattle.lk_law.proofs.Names.{Miss, Pass, Release, Take, Holder, Spins, LockName, Waiter}
+use Rattle.lk_law.proofs.Names.{SnapshotAgrees, sole, MayFollow, moves_aside, has_node, leads}
+use Rattle.lk_law.proofs.Names.{queues, Claims, Hands, Prepared, Releases, Stakes, Snapshot}
+use Rattle.lk_names.specs.{Lawful.Holds, declared.events.How.TheVariants.{Pending, Sole}}
 use Rattle.lk_law.proofs.common.Before.{nodes_apart}
-use Rattle.lk_law.specs.Cna.{moves_aside}
 use Rattle.lk_law.proofs.common.Families.{lists_main, lists_second, lists_front}
-use Rattle.lk_law.proofs.common.Told.{sole_taken, sole_freed}
 use Rattle.lk_law.proofs.common.Holders.{outside_is, holds_is, holds_alone, shared_sole}
+use Rattle.lk_law.proofs.common.Told.{sole_taken, sole_freed}
+use Rattle.lk_law.specs.Allowed.{MayFollowOn}
 
 -- the event is on one lock, whose history allows it
 pub on_lock : (rules : Rules) (hs : LockName → LockHistory) (e : Event) (l : LockName)

@@ -2,12 +2,9 @@
 -- one waiter.
 use Rattle.std.proofs.Common.{◌≡◌, ◌≢◌, ℕ, zero, suc, Bool, true, false, inl, inr, arith, ap, ◌<◌}
 use Rattle.std.proofs.Common.{◌≤◌, ◌+◌, refl, sym, ◌∙◌, subst}
-use Rattle.std.proofs.lemmas.Bool.{cases_eq, cases_order, cases_Bool, cases_lt}
-use Rattle.lk_names.specs.declared.names.Waiter.{Waiter}
-use Rattle.lk_names.specs.declared.names.LockName.{LockName}
-use Rattle.lk_word.specs.declared.spin_word.NodeName.{NodeName}
-use Rattle.lk_law.specs.Phase.{Phase, has_node}
-use Rattle.lk_law.specs.Snapshot.{Moves, before, NodesAgree}
+use Rattle.std.proofs.lemmas.Bool.{cases_order}
+use Rattle.lk_law.proofs.Names.{cases_Bool, cases_eq, cases_lt, NodeName, LockName, Waiter, Phase}
+use Rattle.lk_law.proofs.Names.{has_node, Moves, NodesAgree, before}
 
 abbrev at : ℕ → ℕ → Waiter
 at p c = record { cpu = p; ctx = c }

@@ -1,55 +1,22 @@
 -- A frame begins an operation, or comes, goes or changes without a place.
-use Rattle.std.specs.Prelude.{is_some}
-use Rattle.std.proofs.Common.{◌≡◌, ◌≢◌, inl, inr, Option, Some, None, Bool, true, false, arith, ap}
-use Rattle.std.proofs.Common.{refl, sym, ◌∙◌, subst}
-use Rattle.lk_names.specs.History.{LockHistory}
-use Rattle.lk_names.specs.declared.holder.Manner.{Manner}
-use Rattle.lk_names.specs.declared.names.Mode.{Mode}
-use Rattle.lk_names.specs.declared.names.Mode.TheVariants.{Virt, Native, Cna, Pv}
-use Rattle.lk_names.specs.declared.names.Waiter.{Waiter}
-use Rattle.lk_names.specs.declared.names.LockName.{LockName}
-use Rattle.lk_word.specs.declared.spin_word.NodeName.{NodeName}
-use Rattle.lk_rows.specs.declared.setup.Op.{Op}
-use Rattle.lk_rows.specs.declared.setup.Verb.{Verb}
-use Rattle.lk_rows.specs.declared.setup.Verb.TheVariants.{Lock, Try, Unlock}
-use Rattle.lk_rows.specs.declared.parts.Frame.{Frame}
-use Rattle.lk_rows.specs.declared.parts.Pc.{Pc}
-use Rattle.lk_rows.specs.declared.parts.Pc.TheVariants.{G5, G11}
-use Rattle.lk_rows.specs.Programs.{way_before}
-use Rattle.lk_rows.specs.Moves.{node_of, first_place, started}
-use Rattle.lk_law.specs.Phase.{Phase, has_node}
-use Rattle.lk_law.specs.Phase.Phase.{Idle}
-use Rattle.lk_law.specs.Snapshot.{Moves, spins}
-use Rattle.lk_law.specs.Agree.{Step, Stays, halts}
-use Rattle.lk_law.specs.Stage.Stage.{Rests}
-use Rattle.lk_law.specs.Pv.{agrees}
-use Rattle.lk_law.specs.Pv.Post.{Off}
-use Rattle.lk_law.specs.Places.{post_on, post_if, post_of, post_at}
-use Rattle.lk_law.specs.Families.{stays_awake}
-use Rattle.lk_law.specs.Registers.{needs_hash}
-use Rattle.lk_law.specs.Registers.{names_next, sees_peer, counts_turns, is_unaware}
-use Rattle.lk_law.specs.Families.{chooses}
-use Rattle.lk_law.specs.Registers.{hands_plainly}
-use Rattle.lk_law.specs.Places.{stage_on, stage_if, kept_in, snapshot}
-use Rattle.lk_law.specs.World.{World}
-use Rattle.lk_law.specs.Places.{phase_at, phase_on, own_in, slow_in}
-use Rattle.lk_law.specs.Families.{is_slow}
-use Rattle.lk_law.specs.Steps.{put_frame}
-use Rattle.lk_law.specs.Registers.{RegistersFit}
-use Rattle.lk_law.specs.Families.{may_halt}
-use Rattle.lk_law.specs.SpinWorld.{IsSoundSpinWorld}
-use Rattle.lk_law.specs.SpinLaws.{SpinBeginKeeps, SpinEndKeeps}
-use Rattle.lk_law.specs.Premises.{HasNoPlace}
-use Rattle.lk_law.proofs.common.Cases.{waiter_cases}
-use Rattle.lk_law.proofs.spin.Laws.{IsSame, IsTurn, law_same, law_turn, turn_seeks, turn_releases}
-use Rattle.lk_law.proofs.common.Puts.{put_moves}
-use Rattle.std.proofs.lemmas.Bool.{cases_Bool}
-use Rattle.lk_law.proofs.pv.SharedLaws.{law_turn_pv}
-use Rattle.lk_law.proofs.pv.Outside.{Posted}
+use Rattle.std.proofs.Common.{is_some, ◌≡◌, ◌≢◌, inl, inr, Option, Some, None, Bool, true, false}
+use Rattle.std.proofs.Common.{arith, ap, refl, sym, ◌∙◌, subst}
+use Rattle.lk_law.proofs.Names.{cases_Bool, NodeName, LockHistory, Manner, LockName, Mode, Cna}
+use Rattle.lk_law.proofs.Names.{Native, Pv, Virt, Waiter, first_place, node_of, started, Frame, Pc}
+use Rattle.lk_law.proofs.Names.{G5, G11, Op, Verb, Unlock, Stays, Step, halts, chooses, is_slow}
+use Rattle.lk_law.proofs.Names.{may_halt, stays_awake, Phase, has_node, Idle, kept_in, own_in}
+use Rattle.lk_law.proofs.Names.{phase_at, phase_on, post_at, post_if, post_of, post_on, slow_in}
+use Rattle.lk_law.proofs.Names.{snapshot, stage_if, stage_on, HasNoPlace, agrees, Off, RegistersFit}
+use Rattle.lk_law.proofs.Names.{counts_turns, hands_plainly, is_unaware, names_next, needs_hash}
+use Rattle.lk_law.proofs.Names.{sees_peer, Moves, spins, IsSoundSpinWorld, Rests, put_frame, World}
+use Rattle.lk_rows.specs.{Programs.way_before, declared.setup.Verb.TheVariants.{Lock, Try}}
+use Rattle.lk_law.proofs.{common.Acting.placeless_phase, common.Cases.waiter_cases}
+use Rattle.lk_law.proofs.{common.Choices.{unchosen, fit_placeless}, common.Puts.put_moves}
 use Rattle.lk_law.proofs.common.Worlds.{sleeper_halts, world_owes, post_on-off, stage_on-rests}
 use Rattle.lk_law.proofs.common.Worlds.{phase_on-idle, world_step, world_stays, world_sound}
-use Rattle.lk_law.proofs.common.Choices.{unchosen, fit_placeless}
-use Rattle.lk_law.proofs.common.Acting.{placeless_phase}
+use Rattle.lk_law.proofs.{pv.Outside.Posted, pv.SharedLaws.law_turn_pv}
+use Rattle.lk_law.proofs.spin.Laws.{IsSame, IsTurn, law_same, law_turn, turn_seeks, turn_releases}
+use Rattle.lk_law.specs.SpinLaws.{SpinBeginKeeps, SpinEndKeeps}
 
 -- a frame without a place has no post
 pub place_off : (f : Frame) → f.place ≡ None → post_of f ≡ Off

@@ -1,31 +1,19 @@
 -- Each row of a spinlock or a wait lock keeps worlds with reader-writer locks.
 use Rattle.std.proofs.Common.{◌≡◌, ◌≢◌, inl, inr, ℕ, Option, Some, None, Bool, true, false, arith}
 use Rattle.std.proofs.Common.{ap, refl, sym, ◌∙◌, subst}
-use Rattle.lk_names.specs.History.{LockHistory, no_history, lock_of, told, is_on, changed}
-use Rattle.lk_names.specs.declared.holder.Manner.{Manner}
-use Rattle.lk_names.specs.Lawful.{Rules}
-use Rattle.lk_names.specs.declared.names.Kind.{Kind}
-use Rattle.lk_names.specs.declared.names.Kind.TheVariants.{Rw}
-use Rattle.lk_names.specs.declared.names.Waiter.{Waiter}
-use Rattle.lk_names.specs.declared.names.LockName.{LockName}
-use Rattle.lk_names.specs.declared.events.Event.{Event}
-use Rattle.lk_rows.specs.declared.parts.Frame.{Frame}
-use Rattle.lk_rows.specs.declared.parts.Pc.{Pc}
-use Rattle.lk_rows.specs.Moves.{rw_name}
-use Rattle.lk_rows.specs.Row.{Tell, Says, Passes, Nothing, Lead}
-use Rattle.lk_law.specs.World.{World}
-use Rattle.lk_law.specs.SpinWorld.{IsSoundSpinWorld}
-use Rattle.lk_law.specs.Steps.{led, way_led, lead_on, row_in, told_event, told_on}
-use Rattle.lk_law.specs.SpinLaws.{SpinRowKeeps}
-use Rattle.lk_law.specs.Allowed.{MayFollowOn, MayFollowIfAny}
-use Rattle.lk_law.specs.Families.{is_rw_row}
-use Rattle.lk_law.specs.SoundWorld.{part_of, is_rw_name, spin_part, RwFits, IsSoundWorld}
-use Rattle.lk_law.specs.WorldLaws.{RowKeeps}
+use Rattle.lk_law.proofs.Names.{LockHistory, changed, lock_of, no_history, told, Rules, Event}
+use Rattle.lk_law.proofs.Names.{Manner, Kind, Rw, LockName, Waiter, rw_name, Lead, Nothing, Passes}
+use Rattle.lk_law.proofs.Names.{Says, Tell, Frame, Pc, MayFollowIfAny, is_rw_row, IsSoundWorld}
+use Rattle.lk_law.proofs.Names.{RwFits, is_rw_name, part_of, spin_part, SpinRowKeeps}
+use Rattle.lk_law.proofs.Names.{IsSoundSpinWorld, lead_on, led, row_in, told_event, told_on}
+use Rattle.lk_law.proofs.Names.{way_led, World, RowKeeps}
+use Rattle.lk_names.specs.History.{is_on}
 use Rattle.lk_law.proofs.common.Cases.{waiter_cases}
 use Rattle.lk_law.proofs.common.Puts.{if-true, if-false, same_lock-else}
 use Rattle.lk_law.proofs.rw.Else.{beside_rest, IsOfLock, Put, put_held_frame, SpinLead, TellsOf}
 use Rattle.lk_law.proofs.rw.Else.{SpinMade, led_keeps, led_onward}
 use Rattle.lk_law.proofs.rw.Phases.{spin_apart, spin_rws, spin_fits}
+use Rattle.lk_law.specs.Allowed.{MayFollowOn}
 
 -- what is told is told of the lock, if of any
 abbrev pub IsOf : LockName → Option Event → Type 0

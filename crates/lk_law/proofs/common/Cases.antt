@@ -1,12 +1,6 @@
 -- Names are the same or not; and each waiter has a node of its own.
-use Rattle.std.proofs.Common.{◌≡◌, ◌≢◌, ◌⊎◌, inl, inr, arith, ap, true}
-use Rattle.std.proofs.lemmas.Bool.{cases_eq}
-use Rattle.lk_names.specs.declared.names.Waiter.{Waiter}
-use Rattle.lk_word.specs.declared.spin_word.NodeName.{NodeName}
-use Rattle.lk_names.specs.declared.names.LockName.{LockName}
-use Rattle.std.proofs.lemmas.Bool.{cases_Bool}
-use Rattle.std.proofs.Common.{Bool}
-use Rattle.lk_law.specs.Phase.{Phase, has_node}
+use Rattle.std.proofs.Common.{◌≡◌, ◌≢◌, ◌⊎◌, inl, inr, arith, ap, true, Bool}
+use Rattle.lk_law.proofs.Names.{cases_Bool, cases_eq, NodeName, LockName, Waiter, Phase, has_node}
 
 -- two waiters are the same, or not
 pub waiter_cases : (u w : Waiter) → (u ≡ w) ⊎ (u ≢ w)

@@ -1,29 +1,14 @@
 -- What a frame knows of its choice and of its turns after a row.
-use Rattle.std.proofs.Common.{◌≡◌, ◌≢◌, inl, Option, Some, None, Bool, true, false, arith, ap}
-use Rattle.std.proofs.Common.{refl, sym, ◌∙◌, inr, subst, ◌<◌}
-use Rattle.std.specs.Prelude.{is_some}
-use Rattle.lk_names.specs.declared.names.Mode.{Mode}
-use Rattle.lk_names.specs.declared.names.Mode.TheVariants.{Virt, Native, Cna, Pv}
-use Rattle.lk_word.specs.declared.spin_word.NodeName.{NodeName}
-use Rattle.lk_rows.specs.declared.parts.Frame.{Frame}
-use Rattle.lk_rows.specs.declared.parts.Pc.{Pc}
-use Rattle.lk_rows.specs.declared.parts.Pc.TheVariants.{R4, Wr2, G5, G11, C1, C2, C3, C4, C5, C6}
-use Rattle.lk_rows.specs.declared.parts.Pc.TheVariants.{C9, C10, E10, E11, E12, E15, K1, K2, K3}
-use Rattle.lk_rows.specs.declared.parts.Why.{Why}
-use Rattle.lk_rows.specs.Moves.{node_of}
-use Rattle.lk_law.specs.Phase.{has_node}
-use Rattle.lk_law.specs.Phase.Phase.{Idle}
-use Rattle.lk_law.specs.Cna.{moves_aside}
-use Rattle.lk_law.specs.Agree.{halts}
-use Rattle.lk_law.specs.Places.{phase_of, phase_at}
-use Rattle.lk_law.specs.Families.{is_slow}
-use Rattle.lk_law.specs.Families.{chooses, may_halt}
-use Rattle.lk_law.specs.Registers.{hands_plainly, is_quiet_row, is_unaware}
-use Rattle.lk_law.specs.Registers.{needs_second, returns, knows_first, knows_last, knows_tail}
-use Rattle.lk_law.specs.Registers.{ChoiceFits, RegistersFit, IsQuiet, needs_hash}
-use Rattle.lk_law.specs.Families.{stays_awake}
-use Rattle.lk_law.specs.Registers.{names_next, sees_peer, counts_turns}
-use Rattle.lk_law.specs.Premises.{IsThen}
+use Rattle.std.proofs.Common.{◌≡◌, ◌≢◌, inl, Option, Some, None, Bool, true, false, arith, ap, refl}
+use Rattle.std.proofs.Common.{sym, ◌∙◌, inr, subst, ◌<◌, is_some}
+use Rattle.lk_law.proofs.Names.{NodeName, Mode, Cna, Native, Pv, Virt, node_of, Frame, Pc, C1, C2}
+use Rattle.lk_law.proofs.Names.{C3, C4, C5, C6, C9, C10, E10, E11, E12, E15, G5, G11, K1, K2, K3}
+use Rattle.lk_law.proofs.Names.{R4, Wr2, Why, halts, moves_aside, chooses, is_slow, may_halt}
+use Rattle.lk_law.proofs.Names.{stays_awake, has_node, Idle, phase_at, phase_of, IsThen, ChoiceFits}
+use Rattle.lk_law.proofs.Names.{IsQuiet, RegistersFit, counts_turns, hands_plainly, is_unaware}
+use Rattle.lk_law.proofs.Names.{names_next, needs_hash, sees_peer}
+use Rattle.lk_law.specs.Registers.{is_quiet_row, needs_second, returns, knows_first, knows_last}
+use Rattle.lk_law.specs.Registers.{knows_tail}
 
 -- a frame's registers after a row
 

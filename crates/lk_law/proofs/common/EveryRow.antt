@@ -1,82 +1,66 @@
 -- Every row keeps every sound world.
 use Rattle.std.proofs.Common.{true, refl, Bool, false}
-use Rattle.lk_rows.specs.declared.parts.Pc.{Pc}
-use Rattle.lk_rows.specs.declared.parts.Pc.TheVariants.{F1, T1, T2, U1, V1, V2, P0, P1, P2, P3}
-use Rattle.lk_rows.specs.declared.parts.Pc.TheVariants.{P4, G1, G2, G3, G4, G5, G6, G7, G8, G9}
-use Rattle.lk_rows.specs.declared.parts.Pc.TheVariants.{G10, G11, N1, N2, C1, C2, C3, C4, C5, C6}
-use Rattle.lk_rows.specs.declared.parts.Pc.TheVariants.{C7, C8, C9, C10, H1, H2, W1, W2, W3, W4}
-use Rattle.lk_rows.specs.declared.parts.Pc.TheVariants.{W5, W6, W7, E1, E2, E3, E4, E5, E6, E7}
-use Rattle.lk_rows.specs.declared.parts.Pc.TheVariants.{E8, E9, E10, E11, E12, E13, E14, E15, K1}
-use Rattle.lk_rows.specs.declared.parts.Pc.TheVariants.{K2, K3, U2, U3, U4, U5, R1, R2, R3, R4}
-use Rattle.lk_rows.specs.declared.parts.Pc.TheVariants.{R5, Wr1, Wr2, Wr3, Wr4, Wr5, Wr6, Y1, Y2}
-use Rattle.lk_rows.specs.declared.parts.Pc.TheVariants.{Y3, Y4, Y5, Z1, Z2}
-use Rattle.lk_law.specs.WorldLaws.{RowKeeps}
-use Rattle.lk_law.specs.Families.{is_rw_row}
-use Rattle.lk_law.specs.SpinLaws.{SpinRowKeeps}
-use Rattle.lk_law.proofs.pv.SharedRowsKeep.{fast_keeps, try_look_keeps, try_swap_keeps, enter_keeps}
-use Rattle.lk_law.proofs.pv.SharedRowsKeep.{exchange_tail_keeps, link_keeps}
-use Rattle.lk_law.proofs.pv.WaitRowsKeep.{waiter_spin_keeps, waiter_watch_keeps}
-use Rattle.lk_law.proofs.pv.WaitRowsKeep.{waiter_say_halted_keeps}
-use Rattle.lk_law.proofs.pv.WaitRowsKeep.{waiter_look_once_more_keeps, waiter_test_state_keeps}
-use Rattle.lk_law.proofs.pv.WaitRowsKeep.{waiter_halt_keeps}
-use Rattle.lk_law.proofs.pv.WaitRowsKeep.{waiter_say_running_keeps}
-use Rattle.lk_law.proofs.pv.FrontTryRowsKeep.{front_look_at_state_keeps, front_say_running_keeps}
-use Rattle.lk_law.proofs.pv.FrontTryRowsKeep.{front_set_pending_keeps}
-use Rattle.lk_law.proofs.pv.FrontTryRowsKeep.{front_take_pending_keeps, front_clear_pending_keeps}
-use Rattle.lk_law.proofs.pv.FrontHaltRowsKeep.{front_enter_hash_keeps}
-use Rattle.lk_law.proofs.pv.FrontHaltRowsKeep.{front_exchange_slow_keeps, front_store_held_keeps}
-use Rattle.lk_law.proofs.pv.FrontHaltRowsKeep.{front_leave_hash_keeps}
+use Rattle.lk_law.proofs.Names.{Pc, C1, C2, C3, C4, C5, C6, C7, C8, C9, C10, E1, E2, E3, E4, E5, E6}
+use Rattle.lk_law.proofs.Names.{E7, E8, E9, E10, E11, E12, E13, E14, E15, F1, G1, G2, G3, G4, G5}
+use Rattle.lk_law.proofs.Names.{G6, G7, G8, G9, G10, G11, H1, H2, K1, K2, K3, N1, N2, P0, P1, P2}
+use Rattle.lk_law.proofs.Names.{P3, P4, R1, R2, R3, R4, R5, T1, T2, U1, U2, U3, U4, U5, V1, V2, W1}
+use Rattle.lk_law.proofs.Names.{W2, W3, W4, W5, W6, W7, Wr1, Wr2, Wr3, Wr4, Wr5, Wr6, Y1, Y2, Y3}
+use Rattle.lk_law.proofs.Names.{Y4, Y5, Z1, Z2, is_rw_row, SpinRowKeeps, RowKeeps}
+use Rattle.lk_law.proofs.cna.EndRowsKeep.{choice_hand_on_keeps, choice_flush_keeps}
+use Rattle.lk_law.proofs.cna.EndRowsKeep.{choice_promote_keeps}
+use Rattle.lk_law.proofs.cna.RowsKeep.{choice_look_keeps, choice_pass_over_keeps}
+use Rattle.lk_law.proofs.cna.RowsKeep.{choice_find_tail_keeps}
+use Rattle.lk_law.proofs.cna.RowsMade.{makes_C1, makes_C2, makes_C3, makes_C4, makes_C5, makes_C6}
+use Rattle.lk_law.proofs.cna.RowsMade.{makes_C7, makes_C8, makes_C9, makes_C10}
+use Rattle.lk_law.proofs.cna.StoreRowsKeep.{choice_append_keeps, choice_cut_keeps}
+use Rattle.lk_law.proofs.cna.StoreRowsKeep.{choice_set_tail_keeps, choice_count_keeps}
+use Rattle.lk_law.proofs.common.BothLayers.{keeps_both_layers}
+use Rattle.lk_law.proofs.common.RowsMade.{makes_F1, makes_T1, makes_T2, makes_U1, makes_V1}
+use Rattle.lk_law.proofs.common.RowsMade.{makes_V2, makes_P0, makes_P1, makes_P2, makes_P3}
+use Rattle.lk_law.proofs.common.RowsMade.{makes_P4, makes_G1, makes_G2, makes_G3, makes_G4}
+use Rattle.lk_law.proofs.common.RowsMade.{makes_G5, makes_G6, makes_G7, makes_G8, makes_G9}
+use Rattle.lk_law.proofs.common.RowsMade.{makes_G10, makes_G11, makes_N1, makes_N2}
+use Rattle.lk_law.proofs.pv.FrontHaltRowsKeep.{front_enter_hash_keeps, front_exchange_slow_keeps}
+use Rattle.lk_law.proofs.pv.FrontHaltRowsKeep.{front_store_held_keeps, front_leave_hash_keeps}
 use Rattle.lk_law.proofs.pv.FrontHaltRowsKeep.{front_say_hashed_keeps, front_test_slow_keeps}
 use Rattle.lk_law.proofs.pv.FrontHaltRowsKeep.{front_halt_keeps}
 use Rattle.lk_law.proofs.pv.FrontHandRowsKeep.{front_leave_queue_keeps, front_wait_for_next_keeps}
 use Rattle.lk_law.proofs.pv.FrontHandRowsKeep.{front_hand_on_keeps}
+use Rattle.lk_law.proofs.pv.FrontTryRowsKeep.{front_look_at_state_keeps, front_say_running_keeps}
+use Rattle.lk_law.proofs.pv.FrontTryRowsKeep.{front_set_pending_keeps, front_take_pending_keeps}
+use Rattle.lk_law.proofs.pv.FrontTryRowsKeep.{front_clear_pending_keeps}
 use Rattle.lk_law.proofs.pv.HolderRowsKeep.{holder_mark_hashed_keeps, holder_store_slow_keeps}
 use Rattle.lk_law.proofs.pv.HolderRowsKeep.{holder_enter_next_keeps}
 use Rattle.lk_law.proofs.pv.ReleaseRowsKeep.{release_swap_free_keeps, release_find_target_keeps}
 use Rattle.lk_law.proofs.pv.ReleaseRowsKeep.{release_store_free_keeps, release_kick_keeps}
-use Rattle.lk_law.proofs.pv.StealRowsKeep.{steal_glance_keeps}
-use Rattle.lk_law.proofs.pv.StealRowsKeep.{steal_keeps}
-use Rattle.lk_law.proofs.spin.RowsKeep.{release_keeps, loop_look_keeps, loop_swap_keeps}
-use Rattle.lk_law.proofs.spin.RowsKeep.{pending_look_again_keeps}
-use Rattle.lk_law.proofs.spin.PendingRowsKeep.{set_pending_keeps, clear_pending_keeps}
-use Rattle.lk_law.proofs.spin.PendingRowsKeep.{watch_keeps, take_pending_keeps}
+use Rattle.lk_law.proofs.pv.RowsMade.{makes_H1, makes_H2, makes_W1, makes_W2, makes_W3, makes_W4}
+use Rattle.lk_law.proofs.pv.RowsMade.{makes_W5, makes_W6, makes_W7, makes_E1, makes_E2, makes_E3}
+use Rattle.lk_law.proofs.pv.RowsMade.{makes_E4, makes_E5, makes_E6, makes_E7, makes_E8, makes_E9}
+use Rattle.lk_law.proofs.pv.RowsMade.{makes_E10, makes_E11, makes_E12, makes_E13, makes_E14}
+use Rattle.lk_law.proofs.pv.RowsMade.{makes_E15, makes_K1, makes_K2, makes_K3, makes_U2, makes_U3}
+use Rattle.lk_law.proofs.pv.RowsMade.{makes_U4, makes_U5}
+use Rattle.lk_law.proofs.pv.SharedRowsKeep.{fast_keeps, try_look_keeps, try_swap_keeps, enter_keeps}
+use Rattle.lk_law.proofs.pv.SharedRowsKeep.{exchange_tail_keeps, link_keeps}
+use Rattle.lk_law.proofs.pv.StealRowsKeep.{steal_glance_keeps, steal_keeps}
+use Rattle.lk_law.proofs.pv.WaitRowsKeep.{waiter_spin_keeps, waiter_watch_keeps}
+use Rattle.lk_law.proofs.pv.WaitRowsKeep.{waiter_say_halted_keeps, waiter_look_once_more_keeps}
+use Rattle.lk_law.proofs.pv.WaitRowsKeep.{waiter_test_state_keeps, waiter_halt_keeps}
+use Rattle.lk_law.proofs.{pv.WaitRowsKeep.waiter_say_running_keeps, queue.ArriveRowsKeep.wait_keeps}
 use Rattle.lk_law.proofs.queue.EntryRowsKeep.{look_again_keeps, swap_again_keeps, look_bare_keeps}
 use Rattle.lk_law.proofs.queue.EntryRowsKeep.{swap_bare_keeps}
-use Rattle.lk_law.proofs.cna.RowsKeep.{choice_look_keeps, choice_pass_over_keeps}
-use Rattle.lk_law.proofs.cna.RowsKeep.{choice_find_tail_keeps}
-use Rattle.lk_law.proofs.cna.StoreRowsKeep.{choice_append_keeps, choice_cut_keeps}
-use Rattle.lk_law.proofs.cna.StoreRowsKeep.{choice_set_tail_keeps}
-use Rattle.lk_law.proofs.cna.StoreRowsKeep.{choice_count_keeps}
-use Rattle.lk_law.proofs.cna.EndRowsKeep.{choice_hand_on_keeps, choice_flush_keeps}
-use Rattle.lk_law.proofs.cna.EndRowsKeep.{choice_promote_keeps}
-use Rattle.lk_law.proofs.queue.ArriveRowsKeep.{wait_keeps}
-use Rattle.lk_law.proofs.queue.FrontRowsKeep.{wait_as_front_keeps, take_sole_keeps}
-use Rattle.lk_law.proofs.queue.FrontRowsKeep.{take_head_keeps, wait_for_next_keeps, hand_on_keeps}
-use Rattle.lk_law.proofs.common.BothLayers.{keeps_both_layers}
-use Rattle.lk_law.proofs.common.RowsMade.{makes_F1, makes_T1, makes_T2}
-use Rattle.lk_law.proofs.common.RowsMade.{makes_U1, makes_V1, makes_V2, makes_P0, makes_P1}
-use Rattle.lk_law.proofs.common.RowsMade.{makes_P2, makes_P3, makes_P4, makes_G1, makes_G2}
-use Rattle.lk_law.proofs.common.RowsMade.{makes_G3, makes_G4, makes_G5, makes_G6, makes_G7}
-use Rattle.lk_law.proofs.common.RowsMade.{makes_G8, makes_G9, makes_G10, makes_G11, makes_N1}
-use Rattle.lk_law.proofs.common.RowsMade.{makes_N2}
-use Rattle.lk_law.proofs.cna.RowsMade.{makes_C1, makes_C2, makes_C3, makes_C4}
-use Rattle.lk_law.proofs.cna.RowsMade.{makes_C5, makes_C6, makes_C7, makes_C8, makes_C9}
-use Rattle.lk_law.proofs.cna.RowsMade.{makes_C10}
-use Rattle.lk_law.proofs.pv.RowsMade.{makes_H1, makes_H2, makes_W1, makes_W2}
-use Rattle.lk_law.proofs.pv.RowsMade.{makes_W3, makes_W4, makes_W5, makes_W6, makes_W7}
-use Rattle.lk_law.proofs.pv.RowsMade.{makes_E1, makes_E2, makes_E3, makes_E4, makes_E5}
-use Rattle.lk_law.proofs.pv.RowsMade.{makes_E6, makes_E7, makes_E8, makes_E9, makes_E10}
-use Rattle.lk_law.proofs.pv.RowsMade.{makes_E11, makes_E12, makes_E13, makes_E14, makes_E15}
-use Rattle.lk_law.proofs.pv.RowsMade.{makes_K1, makes_K2, makes_K3, makes_U2, makes_U3}
-use Rattle.lk_law.proofs.pv.RowsMade.{makes_U4, makes_U5}
+use Rattle.lk_law.proofs.queue.FrontRowsKeep.{wait_as_front_keeps, take_sole_keeps, take_head_keeps}
+use Rattle.lk_law.proofs.queue.FrontRowsKeep.{wait_for_next_keeps, hand_on_keeps}
 use Rattle.lk_law.proofs.rw.RowsKeep.{reader_first_keeps, reader_spin_keeps, reader_retreat_keeps}
 use Rattle.lk_law.proofs.rw.RowsKeep.{reader_join_keeps, reader_wait_keeps, writer_first_keeps}
-use Rattle.lk_law.proofs.rw.RowsKeep.{writer_look_keeps, writer_swap_keeps}
-use Rattle.lk_law.proofs.rw.RowsKeep.{writer_announce_keeps, writer_wait_keeps}
-use Rattle.lk_law.proofs.rw.RowsKeep.{writer_claim_keeps, reader_try_look_keeps}
+use Rattle.lk_law.proofs.rw.RowsKeep.{writer_look_keeps, writer_swap_keeps, writer_announce_keeps}
+use Rattle.lk_law.proofs.rw.RowsKeep.{writer_wait_keeps, writer_claim_keeps, reader_try_look_keeps}
 use Rattle.lk_law.proofs.rw.RowsKeep.{reader_try_add_keeps, reader_try_fail_keeps}
 use Rattle.lk_law.proofs.rw.RowsKeep.{writer_try_look_keeps, writer_try_swap_keeps}
 use Rattle.lk_law.proofs.rw.RowsKeep.{reader_release_keeps, writer_release_keeps}
+use Rattle.lk_law.proofs.spin.PendingRowsKeep.{set_pending_keeps, clear_pending_keeps, watch_keeps}
+use Rattle.lk_law.proofs.spin.PendingRowsKeep.{take_pending_keeps}
+use Rattle.lk_law.proofs.spin.RowsKeep.{release_keeps, loop_look_keeps, loop_swap_keeps}
+use Rattle.lk_law.proofs.spin.RowsKeep.{pending_look_again_keeps}
 
 pub every_row_keeps : (c : Pc) → RowKeeps c
 every_row_keeps F1 = keeps_both_layers F1 refl makes_F1 fast_keeps

@@ -3,28 +3,18 @@
 -- the others is the same lemma on what is shown of the queue.
 use Rattle.std.proofs.Common.{◌≡◌, ◌≢◌, ℕ, zero, suc, Option, Some, None, Bool, true, List, [], ◌∷◌}
 use Rattle.std.proofs.Common.{◌++◌, inl, inr, arith, ap, sym, ◌∙◌, subst, slice_get, drop}
-use Rattle.std.proofs.lemmas.Bool.{cases_Bool}
-use Rattle.lk_names.specs.declared.names.Waiter.{Waiter}
-use Rattle.lk_word.specs.declared.spin_word.NodeName.{NodeName}
-use Rattle.lk_rows.specs.declared.parts.Node.{Node}
-use Rattle.lk_rows.specs.Machine.{rest_node}
-use Rattle.lk_law.specs.Phase.{Phase, has_node, queues, leads}
-use Rattle.lk_law.specs.Phase.Phase.{Idle, Prepared, Links, Waits, Leads, Holds, Hands}
-use Rattle.lk_law.specs.Stage.{Stage}
-use Rattle.lk_law.specs.Stage.Stage.{Rests}
-use Rattle.lk_law.specs.Snapshot.{Moves, Rewrites, QueueAgrees}
-use Rattle.lk_law.specs.Cna.{ListsAgree, FlatAgrees, CnaAgrees, part, shown, front_cut, named_by}
-use Rattle.lk_law.proofs.common.Cases.{waiter_cases, Apart}
-use Rattle.lk_names.proofs.ByIndex.{get_cases, get-none_up, last_cases}
-use Rattle.lk_law.proofs.cna.Parts.{part_cases, part_out, outside_part, shown_flag}
-use Rattle.lk_law.proofs.queue.Keep.{queue_keep}
-use Rattle.lk_law.proofs.queue.Arrive.{arrive_first, arrive_behind, no_queue}
-use Rattle.lk_law.proofs.queue.Link.{queue_link_at}
-use Rattle.lk_law.proofs.queue.Lead.{queue_lead, lead_first}
-use Rattle.lk_law.proofs.queue.Sole.{queue_sole}
-use Rattle.lk_law.proofs.cna.Rows.{cna_keep, cna_rest, cna_behind, cna_link, cna_lead, shown_bare}
+use Rattle.lk_law.proofs.Names.{cases_Bool, NodeName, get-none_up, get_cases, last_cases, Waiter}
+use Rattle.lk_law.proofs.Names.{rest_node, Node, CnaAgrees, FlatAgrees, ListsAgree, front_cut}
+use Rattle.lk_law.proofs.Names.{named_by, part, shown, Phase, has_node, leads, queues, Hands, Holds}
+use Rattle.lk_law.proofs.Names.{Idle, Leads, Links, Prepared, Waits, Moves, QueueAgrees, Rewrites}
+use Rattle.lk_law.proofs.Names.{Stage, Rests}
 use Rattle.lk_law.proofs.cna.Ends.{cna_first, cna_sole}
-use Rattle.lk_law.proofs.cna.Steps.{ChoosesNothing}
+use Rattle.lk_law.proofs.cna.Parts.{part_cases, part_out, outside_part, shown_flag}
+use Rattle.lk_law.proofs.cna.Rows.{cna_keep, cna_rest, cna_behind, cna_link, cna_lead, shown_bare}
+use Rattle.lk_law.proofs.{cna.Steps.ChoosesNothing, common.Cases.{waiter_cases, Apart}}
+use Rattle.lk_law.proofs.queue.Arrive.{arrive_first, arrive_behind, no_queue}
+use Rattle.lk_law.proofs.{queue.Keep.queue_keep, queue.Lead.{queue_lead, lead_first}}
+use Rattle.lk_law.proofs.{queue.Link.queue_link_at, queue.Sole.queue_sole}
 
 pub queue_noded : (r : Phase) → queues r ≡ true → has_node r ≡ true
 queue_noded r p = grind arith

@@ -1,28 +1,17 @@
 -- What a step on one lock leaves alone: the other locks, the nodes of their waiters, and that a
 -- waiter acts on one lock at a time.
-use Rattle.lk_word.specs.declared.spin_word.NodeName.{NodeName}
-use Rattle.lk_rows.specs.declared.parts.Node.{Node}
-use Rattle.lk_law.specs.Pv.{at_halt}
-use Rattle.lk_law.proofs.pv.Keep.{pv_keep, agrees-noded}
 use Rattle.std.proofs.Common.{◌≡◌, ◌≢◌, ℕ, Option, Bool, true, false, inl, inr, arith, ap, ◌<◌}
 use Rattle.std.proofs.Common.{refl, sym, ◌∙◌, subst, slice_get}
-use Rattle.std.proofs.lemmas.Bool.{cases_eq}
-use Rattle.lk_names.specs.History.{LockHistory}
-use Rattle.lk_names.specs.declared.names.Waiter.{Waiter}
-use Rattle.lk_names.specs.declared.names.LockName.{LockName}
-use Rattle.lk_word.specs.declared.spin_word.Fields.{Fields}
-use Rattle.lk_law.specs.Phase.{Phase, has_node, queues}
-use Rattle.lk_law.specs.Phase.Phase.{Idle, Prepared}
-use Rattle.lk_law.specs.Snapshot.{Snapshot, Moves, HolderAgrees, PendingAgrees, NodesAgree, before}
-use Rattle.lk_law.specs.Snapshot.{spins}
-use Rattle.lk_law.specs.Agree.{LockAgrees, SnapshotAgrees, Step, Stays, LeavesSlowPath, ParaAgrees}
-use Rattle.lk_law.specs.Agree.{halts, Owed, node_state}
-use Rattle.lk_law.proofs.common.Cases.{waiter_cases, lock_cases}
+use Rattle.lk_law.proofs.Names.{cases_eq, Fields, NodeName, LockHistory, LockName, Waiter, Node}
+use Rattle.lk_law.proofs.Names.{LeavesSlowPath, LockAgrees, Owed, ParaAgrees, SnapshotAgrees, Stays}
+use Rattle.lk_law.proofs.Names.{Step, halts, node_state, ListsAgree, moves_aside, Phase, has_node}
+use Rattle.lk_law.proofs.Names.{queues, Idle, Prepared, at_halt, HolderAgrees, Moves, NodesAgree}
+use Rattle.lk_law.proofs.Names.{PendingAgrees, Snapshot, before, spins}
 use Rattle.lk_law.proofs.common.Before.{nodes_apart, before_same, before_drop, before_else}
-use Rattle.lk_law.proofs.spin.Hold.{hold_keep}
-use Rattle.lk_law.proofs.spin.Pend.{pend_still}
-use Rattle.lk_law.specs.Cna.{ListsAgree, moves_aside}
+use Rattle.lk_law.proofs.common.Cases.{waiter_cases, lock_cases}
 use Rattle.lk_law.proofs.common.Families.{lists_keep, lists_rest, lists_main}
+use Rattle.lk_law.proofs.{pv.Keep.{pv_keep, agrees-noded}, spin.Hold.hold_keep}
+use Rattle.lk_law.proofs.spin.Pend.{pend_still}
 
 -- a waiter acts on one lock at a time
 abbrev pub ActsAlone : (LockName → Waiter → Phase) → Type 0

@@ -2,23 +2,14 @@
 -- it acts, or of the lock of its operation.
 use Rattle.std.proofs.Common.{◌≡◌, ◌≢◌, ℕ, zero, suc, ◌+◌, Option, Some, None, Bool, true, false}
 use Rattle.std.proofs.Common.{List, [], ◌∷◌, slice_get, inl, inr, ap, refl, sym, ◌∙◌, add-one}
-use Rattle.std.specs.Prelude.{if◌then◌else◌, ◌==◌, ◌&&◌}
-use Rattle.std.proofs.lemmas.Bool.{eq-eqb, ne_eqb}
-use Rattle.std.proofs.lemmas.Option.{same_Some}
-use Rattle.lk_names.specs.Names.{same_lock}
-use Rattle.lk_names.specs.declared.holder.Manner.{Manner}
-use Rattle.lk_names.specs.declared.holder.Manner.TheVariants.{Spins}
-use Rattle.lk_names.specs.declared.names.LockName.{LockName}
-use Rattle.lk_rows.specs.declared.setup.Op.{Op}
-use Rattle.lk_rows.specs.declared.parts.Frame.{Frame}
+use Rattle.std.proofs.Common.{if◌then◌else◌, ◌==◌, ◌&&◌}
+use Rattle.std.proofs.{lemmas.Bool.{eq-eqb, ne_eqb}, lemmas.Option.same_Some}
+use Rattle.lk_law.proofs.Names.{same_lock, Manner, Spins, LockName, rw_name, wait_name, Frame, Op}
+use Rattle.lk_law.proofs.Names.{RwPhase, is_inner, rw_phase_of}
 use Rattle.lk_rows.specs.Programs.{way_at, way_from, op_way, way_after}
-use Rattle.lk_rows.specs.Moves.{rw_name, wait_name}
-use Rattle.lk_law.specs.RwPhase.{RwPhase, is_inner}
-use Rattle.lk_law.specs.SoundWorld.{rw_phase_of}
-use Rattle.lk_law.specs.Sound.{is_over, held_in}
-use Rattle.lk_law.proofs.common.Cases.{lock_cases}
+use Rattle.lk_law.proofs.{common.Cases.lock_cases, common.Puts.{same_lock-else, if-true, if-false}}
 use Rattle.lk_law.proofs.common.Sames.{same_lock-self}
-use Rattle.lk_law.proofs.common.Puts.{same_lock-else, if-true, if-false}
+use Rattle.lk_law.specs.Sound.{is_over, held_in}
 
 pub way_suc : (os : List Op) (n i : ℕ) (w : Option Manner) (o : Op) → slice_get os n ≡ Some o
     → way_from os (suc n) i w ≡ op_way o i (way_from os n i w)

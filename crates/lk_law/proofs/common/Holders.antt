@@ -1,15 +1,10 @@
 -- Who holds a lock of which one waiter at most is the holder; and who stands in no queue.
-use Rattle.std.specs.Prelude.{Contains}
-use Rattle.std.proofs.Common.{◌≡◌, ◌≢◌, ℕ, zero, suc, Option, Some, None, List, length, slice_get}
-use Rattle.std.proofs.Common.{inl, inr, arith, ap, refl, sym, ◌∙◌, subst}
+use Rattle.std.proofs.Common.{Contains, ◌≡◌, ◌≢◌, ℕ, zero, suc, Option, Some, None, List, length}
+use Rattle.std.proofs.Common.{slice_get, inl, inr, arith, ap, refl, sym, ◌∙◌, subst}
 use Rattle.std.proofs.lemmas.Option.{slice_get_read}
-use Rattle.lk_names.specs.History.{LockHistory}
-use Rattle.lk_names.specs.declared.holder.Manner.{Manner}
-use Rattle.lk_names.specs.declared.holder.Manner.TheVariants.{Spins}
-use Rattle.lk_names.specs.declared.holder.Holder.{Holder}
-use Rattle.lk_names.specs.Lawful.{IsShared, HoldsSo, Holds, IsOutside}
-use Rattle.lk_names.specs.declared.names.Waiter.{Waiter}
-use Rattle.lk_law.specs.Agree.{sole}
+use Rattle.lk_law.proofs.Names.{LockHistory, IsOutside, IsShared, Holder, Manner, Spins, Waiter}
+use Rattle.lk_law.proofs.Names.{sole}
+use Rattle.lk_names.specs.Lawful.{HoldsSo, Holds}
 
 -- an element of a list stands at a place of it
 pub contains_at : {A : Type 0} (xs : List A) (x : A) → Contains xs x

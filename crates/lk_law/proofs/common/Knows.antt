@@ -1,45 +1,23 @@
 -- What a sound world says of the word and the nodes that a row meets.
 use Rattle.std.proofs.Common.{◌≡◌, ◌≢◌, Option, Some, None, false, true, slice_get, arith, ap, refl}
-use Rattle.std.proofs.Common.{sym, ◌∙◌, subst}
-use Rattle.std.specs.Prelude.{is_some}
-use Rattle.lk_names.specs.History.{LockHistory}
-use Rattle.lk_names.specs.declared.names.Waiter.{Waiter}
-use Rattle.lk_names.specs.declared.names.LockName.{LockName}
-use Rattle.lk_word.specs.declared.spin_word.NodeName.{NodeName}
-use Rattle.lk_word.specs.declared.spin_word.Locked.{Locked}
-use Rattle.lk_word.specs.declared.spin_word.Locked.TheVariants.{Free, Held, Slow}
-use Rattle.lk_rows.specs.declared.parts.Flag.TheVariants.{Unset}
-use Rattle.lk_rows.specs.declared.parts.Frame.{Frame}
-use Rattle.lk_rows.specs.declared.parts.Pc.{Pc}
-use Rattle.lk_rows.specs.declared.parts.Pc.TheVariants.{U1, P2, P3, P4, G2, G3, G4, G5, G6, G7}
-use Rattle.lk_rows.specs.declared.parts.Pc.TheVariants.{G8, G9, G10, G11, C1, C2, C3, C4, C5, C6}
-use Rattle.lk_rows.specs.declared.parts.Pc.TheVariants.{C7, C8, C9, C10, E6, E8, E9, E13, E14}
-use Rattle.lk_rows.specs.declared.parts.Pc.TheVariants.{E15, K1, K2, K3, U2, U3, U4}
-use Rattle.lk_rows.specs.Moves.{node_of}
-use Rattle.lk_rows.specs.Machine.{rest_node}
-use Rattle.lk_law.specs.Phase.{Phase, has_lock, has_node, pends, claims, queues}
-use Rattle.lk_law.specs.Phase.Phase.{Releases, Prepared, Links, Hands}
-use Rattle.lk_law.specs.Snapshot.{Snapshot, spins}
-use Rattle.lk_law.specs.Pv.{Post, PostsAgree, slow_at, one_at, post_full, bare, post_holds, fronts}
-use Rattle.lk_law.specs.Pv.{raw}
-use Rattle.lk_law.specs.Pv.{names}
-use Rattle.lk_law.specs.Pv.Post.{Finds, Signs}
-use Rattle.lk_law.specs.Agree.{LockAgrees, Owed, node_state, halts}
-use Rattle.lk_law.proofs.pv.Laws.{para, para_queue, para_taken, para_leads, halts_flat}
-use Rattle.lk_law.specs.World.{World}
-use Rattle.lk_law.specs.SpinWorld.{IsSoundSpinWorld}
-use Rattle.lk_law.specs.Places.{snapshot, phase_at, phase_if, phase_on}
-use Rattle.lk_law.specs.Places.{own_in, post_at, post_if, post_on}
-use Rattle.lk_law.specs.Families.{may_halt}
-use Rattle.lk_law.specs.Premises.{Uses}
-use Rattle.lk_law.specs.Known.{RowKnows, IsOwnNode, TailIsUsed, NextIsUsed, HaltingNextIsUsed}
-use Rattle.lk_law.specs.Known.{NamedFrontIsUsed, EntryIsUsed, NobodyHalts, names_front, front_named}
-use Rattle.lk_law.proofs.common.Puts.{not-true}
-use Rattle.lk_law.specs.Cna.{moves_aside}
+use Rattle.std.proofs.Common.{sym, ◌∙◌, subst, is_some}
+use Rattle.lk_law.proofs.Names.{Locked, Free, Held, Slow, NodeName, LockHistory, LockName, Waiter}
+use Rattle.lk_law.proofs.Names.{rest_node, node_of, Unset, Frame, Pc, C1, C2, C3, C4, C5, C6, C7}
+use Rattle.lk_law.proofs.Names.{C8, C9, C10, E6, E8, E9, E13, E14, E15, G2, G3, G4, G5, G6, G7, G8}
+use Rattle.lk_law.proofs.Names.{G9, G10, G11, K1, K2, K3, P2, P3, P4, U1, U2, U3, U4, LockAgrees}
+use Rattle.lk_law.proofs.Names.{Owed, halts, node_state, moves_aside, may_halt, IsOwnNode, Phase}
+use Rattle.lk_law.proofs.Names.{claims, has_lock, has_node, pends, queues, Hands, Links, Prepared}
+use Rattle.lk_law.proofs.Names.{Releases, own_in, phase_at, phase_if, phase_on, post_at, post_if}
+use Rattle.lk_law.proofs.Names.{post_on, snapshot, Uses, Post, PostsAgree, bare, fronts, names}
+use Rattle.lk_law.proofs.Names.{one_at, post_full, post_holds, raw, slow_at, Finds, Signs, Snapshot}
+use Rattle.lk_law.proofs.Names.{spins, IsSoundSpinWorld, World}
 use Rattle.lk_law.proofs.common.Families.{lists_main, lists_none, lists_rest, lists_met, lists_last}
+use Rattle.lk_law.proofs.{common.Puts.not-true, common.Users.{user_of, own_node}}
 use Rattle.lk_law.proofs.common.Worlds.{phase_on-here, post_on-here, sleeper_halts}
 use Rattle.lk_law.proofs.pv.Find.{finds_some}
-use Rattle.lk_law.proofs.common.Users.{user_of, own_node}
+use Rattle.lk_law.proofs.pv.Laws.{para, para_queue, para_taken, para_leads, halts_flat}
+use Rattle.lk_law.specs.Known.{RowKnows, TailIsUsed, NextIsUsed, HaltingNextIsUsed}
+use Rattle.lk_law.specs.Known.{NamedFrontIsUsed, EntryIsUsed, NobodyHalts, names_front, front_named}
 
 held_byte : (b : Locked) → b ≢ Free → b ≢ Slow → b ≡ Held
 held_byte Free post_full quick = absurd (post_full refl)

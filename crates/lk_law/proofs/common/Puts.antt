@@ -1,13 +1,7 @@
 -- What is read of a function that was changed at one name.
-use Rattle.std.proofs.Common.{◌≡◌, ◌≢◌, ℕ, Bool, true, false, arith, refl}
-use Rattle.std.specs.Prelude.{◌==◌, if◌then◌else◌}
-use Rattle.std.proofs.lemmas.Bool.{eqb-true}
-use Rattle.lk_names.specs.Names.{same_lock, same_waiter}
-use Rattle.lk_names.specs.declared.names.Waiter.{Waiter}
-use Rattle.lk_names.specs.declared.names.LockName.{LockName}
-use Rattle.lk_word.specs.declared.spin_word.NodeName.{NodeName}
-use Rattle.lk_rows.specs.declared.parts.Node.{Node}
-use Rattle.lk_law.specs.Snapshot.{same_node, Moves, Rewrites}
+use Rattle.std.proofs.Common.{◌≡◌, ◌≢◌, ℕ, Bool, true, false, arith, refl, ◌==◌, if◌then◌else◌}
+use Rattle.lk_law.proofs.Names.{eqb-true, NodeName, same_lock, same_waiter, LockName, Waiter, Node}
+use Rattle.lk_law.proofs.Names.{Moves, Rewrites, same_node}
 use Rattle.lk_law.proofs.common.Sames.{same_lock-self, same_lock-true, same_waiter-self}
 use Rattle.lk_law.proofs.common.Sames.{same_waiter-true}
 

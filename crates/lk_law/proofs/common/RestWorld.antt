@@ -1,22 +1,12 @@
 -- A world in which nobody is there is sound in each family, with no history: so the laws speak of
 -- something.
 use Rattle.std.proofs.Common.{◌≡◌, ℕ, None, false, List, [], arith, refl, sym, subst}
-use Rattle.lk_names.specs.History.{LockHistory, no_history}
-use Rattle.lk_names.specs.declared.names.Format.{Format}
-use Rattle.lk_names.specs.declared.names.Kind.{Kind}
-use Rattle.lk_names.specs.declared.names.LockName.{LockName}
-use Rattle.lk_names.specs.declared.names.Mode.{Mode}
-use Rattle.lk_names.specs.declared.names.Waiter.{Waiter}
-use Rattle.lk_word.specs.declared.spin_word.NodeName.{NodeName}
-use Rattle.lk_rows.specs.Machine.{rest_node, rest_word}
-use Rattle.lk_rows.specs.declared.parts.Node.{Node}
-use Rattle.lk_law.specs.Phase.Phase.{Idle}
-use Rattle.lk_law.specs.Snapshot.{QueueAgrees}
-use Rattle.lk_law.specs.Resting.{RestIsSound}
-use Rattle.lk_law.specs.World.{World}
-use Rattle.lk_law.specs.SpinWorld.{IsSoundSpinWorld}
-use Rattle.lk_law.specs.SoundWorld.{IsSoundWorld, spin_part, is_rw_name}
+use Rattle.lk_law.proofs.Names.{NodeName, LockHistory, no_history, Format, Kind, LockName, Mode}
+use Rattle.lk_law.proofs.Names.{Waiter, rest_node, Node, Idle, QueueAgrees, IsSoundWorld}
+use Rattle.lk_law.proofs.Names.{is_rw_name, spin_part, IsSoundSpinWorld, World}
+use Rattle.lk_rows.specs.Machine.{rest_word}
 use Rattle.lk_law.proofs.common.Puts.{if_cases}
+use Rattle.lk_law.specs.Resting.{RestIsSound}
 
 abbrev pub empty_world : Format → Mode → ℕ → List ℕ → (ℕ → Kind) → World
 empty_world format mode t sockets kind =

@@ -1,38 +1,22 @@
 -- What each row of a spinlock makes of a world, where no processor halts and nobody chooses.
-use Rattle.std.proofs.Common.{◌≡◌, ℕ, Option, Some, None, Bool, false, refl}
-use Rattle.std.specs.Prelude.{◌&&◌, not, is_some, if◌then◌else◌}
-use Rattle.lk_names.specs.declared.names.Mode.{Mode}
-use Rattle.lk_names.specs.declared.names.Mode.TheVariants.{Virt, Native, Cna, Pv}
-use Rattle.lk_names.specs.declared.names.Waiter.{Waiter}
-use Rattle.lk_names.specs.declared.names.LockName.{LockName}
-use Rattle.lk_names.specs.declared.events.What.TheVariants.{Miss}
-use Rattle.lk_word.specs.declared.spin_word.NodeName.{NodeName}
-use Rattle.lk_word.specs.declared.spin_word.Fields.{Fields}
-use Rattle.lk_rows.specs.declared.parts.State.{State}
-use Rattle.lk_rows.specs.declared.parts.Flag.{Flag}
-use Rattle.lk_rows.specs.declared.parts.Frame.{Frame}
-use Rattle.lk_rows.specs.declared.parts.Pc.{Pc}
-use Rattle.lk_rows.specs.declared.parts.Pc.TheVariants.{F1, T1, T2, U1, V1, V2, P0, P1, P2, P3}
-use Rattle.lk_rows.specs.declared.parts.Pc.TheVariants.{P4, G1, G2, G3, G4, G5, G6, G7, G8, G9}
-use Rattle.lk_rows.specs.declared.parts.Pc.TheVariants.{G10, G11, N1, N2, E1, C1, W1, H1}
-use Rattle.lk_rows.specs.Moves.{node_of, is_node}
-use Rattle.lk_rows.specs.Row.{Effect, looks, misses}
-use Rattle.lk_rows.specs.rows.Spin.{spin_row, is_unlocked, is_free, takes, to_queue, after_fast}
-use Rattle.lk_rows.specs.rows.Spin.{after_pending}
-use Rattle.lk_rows.specs.rows.Queue.{queue_row, entry_row, flag_row, next_row, takes_out}
-use Rattle.lk_rows.specs.rows.Queue.{own_node, after_entry, after_arrival, after_look, is_sole}
-use Rattle.lk_rows.specs.rows.Queue.{after_head, after_flag, after_next, after_link}
-use Rattle.lk_law.specs.World.{World}
-use Rattle.lk_law.specs.Steps.{lead_on, stores_word, stores_flag, stores_next, stores_queued}
-use Rattle.lk_law.specs.Steps.{stores_second, stores_runs, row_in, stores_state, stores_entry}
-use Rattle.lk_law.specs.Steps.{stores_halted, stores_kicked}
-use Rattle.lk_law.specs.Families.{is_rw_row}
-use Rattle.lk_law.specs.SoundWorld.{Part, part_of}
+use Rattle.std.proofs.Common.{◌≡◌, ℕ, Option, Some, None, Bool, false, refl, ◌&&◌, not, is_some}
+use Rattle.std.proofs.Common.{if◌then◌else◌}
+use Rattle.lk_law.proofs.Names.{Fields, NodeName, Miss, LockName, Mode, Cna, Native, Pv, Virt}
+use Rattle.lk_law.proofs.Names.{Waiter, is_node, node_of, Effect, looks, misses, Flag, Frame, Pc}
+use Rattle.lk_law.proofs.Names.{C1, E1, F1, G1, G2, G3, G4, G5, G6, G7, G8, G9, G10, G11, H1, N1}
+use Rattle.lk_law.proofs.Names.{N2, P0, P1, P2, P3, P4, T1, T2, U1, V1, V2, W1, State}
+use Rattle.lk_law.proofs.Names.{after_arrival, after_entry, after_flag, after_head, after_link}
+use Rattle.lk_law.proofs.Names.{after_look, after_next, entry_row, is_sole, takes_out, after_fast}
+use Rattle.lk_law.proofs.Names.{is_free, is_unlocked, takes, to_queue, is_rw_row, Part, part_of}
+use Rattle.lk_law.proofs.Names.{Taking, lead_on, row_in, stores_entry, stores_flag, stores_halted}
+use Rattle.lk_law.proofs.Names.{stores_kicked, stores_next, stores_queued, stores_runs}
+use Rattle.lk_law.proofs.Names.{stores_second, stores_state, stores_word, World}
+use Rattle.lk_rows.specs.rows.Queue.{queue_row, flag_row, next_row, own_node}
+use Rattle.lk_rows.specs.rows.Spin.{spin_row, after_pending}
 use Rattle.lk_law.proofs.common.Puts.{if_cases}
 use Rattle.lk_law.proofs.rw.Else.{beside_word, beside_flag, beside_next, beside_queued}
 use Rattle.lk_law.proofs.rw.Else.{beside_second, beside_runs, beside_state, beside_entry}
 use Rattle.lk_law.proofs.rw.Else.{beside_halted, beside_kicked, IsIn, SpinLead, TellsOf, SpinMade}
-use Rattle.lk_law.specs.SoundWorld.Part.{Taking}
 use Rattle.lk_names.specs.declared.events.How.TheVariants as how
 use Rattle.lk_rows.specs.declared.parts.Flag.TheVariants as flag
 

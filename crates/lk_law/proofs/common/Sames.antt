@@ -1,8 +1,7 @@
 -- Tests of names.
 use Rattle.std.proofs.Common.{◌≡◌, Bool, true, false, arith, refl}
-use Rattle.lk_names.specs.Names.{same_bool, same_lock, same_waiter}
-use Rattle.lk_names.specs.declared.names.Waiter.{Waiter}
-use Rattle.lk_names.specs.declared.names.LockName.{LockName}
+use Rattle.lk_law.proofs.Names.{same_lock, same_waiter, LockName, Waiter}
+use Rattle.lk_names.specs.Names.{same_bool}
 
 pub same_lock-self : (l : LockName) → same_lock l l ≡ true
 same_lock-self l = grind (arith, bool_self l.wait)

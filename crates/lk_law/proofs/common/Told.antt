@@ -1,17 +1,9 @@
 -- What one event says of the lock that it is on, and of the others; and who holds a lock after it.
 use Rattle.std.proofs.Common.{◌≡◌, ◌≢◌, Option, Some, None, true, [], arith, ap, refl, sym, ◌∙◌}
 use Rattle.std.proofs.Common.{subst}
-use Rattle.std.proofs.lemmas.Bool.{cases_Bool}
-use Rattle.lk_names.specs.Names.{same_lock}
-use Rattle.lk_names.specs.History.{LockHistory, told, changed, lock_of, without, with_holder}
-use Rattle.lk_names.specs.History.{without_holder}
-use Rattle.lk_names.specs.declared.holder.Manner.TheVariants.{Spins}
-use Rattle.lk_names.specs.declared.names.Waiter.{Waiter}
-use Rattle.lk_names.specs.declared.names.LockName.{LockName}
-use Rattle.lk_names.specs.declared.events.Event.{Event}
-use Rattle.lk_names.specs.declared.events.What.TheVariants.{Miss}
-use Rattle.lk_law.specs.Snapshot.{Snapshot}
-use Rattle.lk_law.specs.Agree.{LockAgrees, SnapshotAgrees, sole}
+use Rattle.lk_law.proofs.Names.{cases_Bool, LockHistory, changed, lock_of, told, with_holder}
+use Rattle.lk_law.proofs.Names.{without, without_holder, same_lock, Event, Miss, Spins, LockName}
+use Rattle.lk_law.proofs.Names.{Waiter, LockAgrees, SnapshotAgrees, sole, Snapshot}
 use Rattle.lk_law.proofs.common.Sames.{same_lock-self, same_lock-true, same_waiter-self}
 
 pub told_here : (l : LockName) (h : LockHistory) (e : Event) → lock_of e.what ≡ Some l

@@ -1,40 +1,20 @@
 -- The step of the snapshot that a turn makes.
 use Rattle.std.proofs.Common.{◌≡◌, ◌≢◌, inl, ℕ, Option, Some, Bool, true, false, arith, ap, ◌+◌}
-use Rattle.std.proofs.Common.{refl, ◌∙◌}
-use Rattle.std.specs.Prelude.{◌&&◌, ◌≤◌}
-use Rattle.lk_names.specs.Names.{same_lock, same_waiter}
-use Rattle.lk_names.specs.History.{LockHistory}
-use Rattle.lk_names.specs.declared.holder.Manner.{Manner}
-use Rattle.lk_names.specs.declared.names.Waiter.{Waiter}
-use Rattle.lk_names.specs.declared.names.LockName.{LockName}
-use Rattle.lk_word.specs.declared.spin_word.NodeName.{NodeName}
-use Rattle.lk_word.specs.declared.spin_word.Fields.{Fields}
-use Rattle.lk_word.specs.declared.spin_word.Locked.TheVariants.{Slow}
-use Rattle.lk_rows.specs.declared.parts.Flag.TheVariants.{Second}
-use Rattle.lk_rows.specs.declared.parts.Node.{Node}
-use Rattle.lk_rows.specs.declared.parts.Frame.{Frame}
-use Rattle.lk_rows.specs.Moves.{node_of}
-use Rattle.lk_law.specs.Pv.{at_halt}
-use Rattle.lk_law.specs.Phase.{Phase}
-use Rattle.lk_law.specs.Cna.{moves_aside}
-use Rattle.lk_law.specs.Snapshot.{Moves, spins, same_node}
-use Rattle.lk_law.specs.Agree.{SnapshotAgrees, Step, Stays, LeavesSlowPath, EntersSlowPath, Knows}
-use Rattle.lk_law.specs.Agree.{halts, Owed}
-use Rattle.lk_law.specs.World.{World}
-use Rattle.lk_law.specs.Places.{snapshot, phase_of, own_in, post_of, post_on, stage_on, kept_in}
-use Rattle.lk_law.specs.Families.{is_slow}
-use Rattle.lk_law.specs.Places.{stage_of}
-use Rattle.lk_law.specs.Steps.{put_word, put_node, put_queued}
-use Rattle.lk_law.specs.Registers.{RegistersFit}
-use Rattle.lk_law.specs.SpinWorld.{IsPlain, IsSoundSpinWorld}
-use Rattle.lk_law.specs.Premises.{IsNewest}
-use Rattle.lk_law.proofs.common.Sames.{same_lock-self, same_waiter-self}
+use Rattle.std.proofs.Common.{refl, ◌∙◌, ◌&&◌, ◌≤◌}
+use Rattle.lk_law.proofs.Names.{Fields, Slow, NodeName, LockHistory, same_lock, same_waiter, Manner}
+use Rattle.lk_law.proofs.Names.{LockName, Waiter, node_of, Second, Frame, Node, EntersSlowPath}
+use Rattle.lk_law.proofs.Names.{Knows, LeavesSlowPath, Owed, SnapshotAgrees, Stays, Step, halts}
+use Rattle.lk_law.proofs.Names.{moves_aside, is_slow, Phase, kept_in, own_in, phase_of, post_of}
+use Rattle.lk_law.proofs.Names.{post_on, snapshot, stage_of, stage_on, IsNewest, at_halt}
+use Rattle.lk_law.proofs.Names.{RegistersFit, Moves, same_node, spins, IsPlain, IsSoundSpinWorld}
+use Rattle.lk_law.proofs.Names.{put_node, put_queued, put_word, World}
 use Rattle.lk_law.proofs.common.Puts.{if_cases, if-true, if-false, put_moves, same_lock-else}
 use Rattle.lk_law.proofs.common.Puts.{same_waiter-else}
-use Rattle.lk_law.proofs.common.Worlds.{HoldsChange, world_step, world_stays, world_leaves}
-use Rattle.lk_law.proofs.common.Worlds.{world_enters}
-use Rattle.lk_law.proofs.common.Worlds.{world_sound, world_knows, stage_on-here, post_on-here}
+use Rattle.lk_law.proofs.common.Sames.{same_lock-self, same_waiter-self}
 use Rattle.lk_law.proofs.common.Turns.{Turn, turned}
+use Rattle.lk_law.proofs.common.Worlds.{HoldsChange, world_step, world_stays, world_leaves}
+use Rattle.lk_law.proofs.common.Worlds.{world_enters, world_sound, world_knows, stage_on-here}
+use Rattle.lk_law.proofs.common.Worlds.{post_on-here}
 
 -- plain worlds
 

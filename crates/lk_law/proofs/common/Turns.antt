@@ -1,17 +1,8 @@
 -- The frame of a row: a world after its store, and then the frame moves and its waiter's hold of
 -- the lock changes.
 use Rattle.std.proofs.Common.{◌≡◌, ◌≢◌, inl, ℕ, Option, Some, true, refl, ◌⊎◌}
-use Rattle.lk_names.specs.declared.holder.Manner.{Manner}
-use Rattle.lk_names.specs.declared.names.Waiter.{Waiter}
-use Rattle.lk_names.specs.declared.names.LockName.{LockName}
-use Rattle.lk_word.specs.declared.spin_word.NodeName.{NodeName}
-use Rattle.lk_word.specs.declared.spin_word.Fields.{Fields}
-use Rattle.lk_rows.specs.declared.parts.Node.{Node}
-use Rattle.lk_rows.specs.declared.parts.Frame.{Frame}
-use Rattle.lk_law.specs.Pv.{at_halt}
-use Rattle.lk_law.specs.World.{World}
-use Rattle.lk_law.specs.Places.{post_of}
-use Rattle.lk_law.specs.Steps.{put_word, put_node, put_queued, put_frame, put_held}
+use Rattle.lk_law.proofs.Names.{Fields, NodeName, Manner, LockName, Waiter, Frame, Node, post_of}
+use Rattle.lk_law.proofs.Names.{at_halt, put_frame, put_held, put_node, put_queued, put_word, World}
 use Rattle.lk_law.proofs.common.Puts.{put_word-else}
 
 -- the frame of w becomes g, and w holds the lock so

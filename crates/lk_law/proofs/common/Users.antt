@@ -1,27 +1,14 @@
 -- Who uses a node: the laws read a node of a waiter exactly where its frame has one.
-use Rattle.std.proofs.Common.{◌≡◌, ◌<◌, ◌≤◌, ◌+◌, ℕ, zero, suc, Option, Some, None, Bool, true, false}
-use Rattle.std.proofs.Common.{arith, ap, refl, sym, ◌∙◌, inl, inr}
-use Rattle.std.proofs.Common.{subst}
-use Rattle.std.proofs.lemmas.Bool.{cases_Bool, cases_lt}
-use Rattle.std.specs.Prelude.{if◌then◌else◌, is_some}
-use Rattle.lk_names.specs.Names.{same_lock}
-use Rattle.lk_names.specs.History.{LockHistory}
-use Rattle.lk_names.specs.declared.names.Waiter.{Waiter}
-use Rattle.lk_names.specs.declared.names.LockName.{LockName}
-use Rattle.lk_word.specs.declared.spin_word.NodeName.{NodeName}
-use Rattle.lk_rows.specs.declared.parts.Frame.{Frame}
-use Rattle.lk_rows.specs.Moves.{is_node, node_of}
-use Rattle.lk_law.specs.Phase.{Phase, has_node}
-use Rattle.lk_law.specs.Phase.Phase.{Idle}
-use Rattle.lk_law.specs.World.{World}
-use Rattle.lk_law.specs.SpinWorld.{IsSoundSpinWorld}
-use Rattle.lk_law.specs.Places.{snapshot, phase_of, phase_on, own_in}
-use Rattle.lk_law.specs.Premises.{IsShallow, Uses}
-use Rattle.lk_law.specs.Steps.{has_own, first_user, waiter_in}
-use Rattle.lk_law.specs.Known.{IsOwnNode, NodeIsOnes}
-use Rattle.lk_law.proofs.common.Before.{nodes_apart}
-use Rattle.lk_law.proofs.common.Puts.{same_node-self}
+use Rattle.std.proofs.Common.{◌≡◌, ◌<◌, ◌≤◌, ◌+◌, ℕ, zero, suc, Option, Some, None, Bool, true}
+use Rattle.std.proofs.Common.{false, arith, ap, refl, sym, ◌∙◌, inl, inr, subst, if◌then◌else◌}
+use Rattle.std.proofs.Common.{is_some}
+use Rattle.lk_law.proofs.Names.{cases_Bool, cases_lt, NodeName, LockHistory, same_lock, LockName}
+use Rattle.lk_law.proofs.Names.{Waiter, is_node, node_of, Frame, IsOwnNode, Phase, has_node, Idle}
+use Rattle.lk_law.proofs.Names.{own_in, phase_of, phase_on, snapshot, Uses, IsSoundSpinWorld, World}
+use Rattle.lk_law.proofs.{common.Before.nodes_apart, common.Puts.same_node-self}
 use Rattle.lk_law.proofs.common.Worlds.{phase_on-here}
+use Rattle.lk_law.specs.{Known.NodeIsOnes, Premises.IsShallow}
+use Rattle.lk_law.specs.Steps.{has_own, first_user, waiter_in}
 
 pub some_is : (o : Option NodeName) → is_some o ≡ true → o ≡ Some (node_of o)
 some_is None h = cc

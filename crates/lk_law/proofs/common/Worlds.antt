@@ -1,43 +1,19 @@
 -- A row moves one frame of a world: the step of its snapshot.
-use Rattle.lk_law.specs.Pv.Post.{Off, Kicks}
-use Rattle.lk_law.specs.Pv.{Post, at_halt}
 use Rattle.std.proofs.Common.{◌≡◌, ◌≢◌, ◌⊎◌, ◌<◌, inl, inr, ℕ, Option, None, Some, Bool, true}
-use Rattle.std.proofs.Common.{false, arith, ap, ◌+◌, refl, sym, ◌∙◌, subst}
-use Rattle.std.specs.Prelude.{if◌then◌else◌, is_some}
-use Rattle.lk_names.specs.Names.{same_lock}
-use Rattle.lk_names.specs.History.{LockHistory}
-use Rattle.lk_names.specs.declared.names.Mode.{Mode}
-use Rattle.lk_names.specs.declared.names.Waiter.{Waiter}
-use Rattle.lk_names.specs.declared.names.LockName.{LockName}
-use Rattle.lk_word.specs.declared.spin_word.Fields.{Fields}
-use Rattle.lk_word.specs.declared.spin_word.NodeName.{NodeName}
-use Rattle.lk_rows.specs.declared.parts.Frame.{Frame}
-use Rattle.lk_rows.specs.declared.parts.Pc.{Pc}
-use Rattle.lk_rows.specs.declared.parts.Pc.TheVariants.{C2, C3, C4, C5, C6, C7, C8, C9, C10, W6}
-use Rattle.lk_rows.specs.declared.parts.Pc.TheVariants.{E12}
-use Rattle.lk_names.specs.Lawful.{is_local}
-use Rattle.lk_rows.specs.Moves.{node_of}
-use Rattle.lk_law.specs.Phase.{Phase}
-use Rattle.lk_law.specs.Phase.Phase.{Idle}
-use Rattle.lk_law.specs.Phase.Phase.{Holds}
-use Rattle.lk_law.specs.Stage.{Stage}
-use Rattle.lk_law.specs.Stage.Stage.{Rests}
-use Rattle.lk_law.specs.Snapshot.{Moves, spins}
-use Rattle.lk_law.specs.Agree.{SnapshotAgrees, Step, Stays, IsOnTop, LeavesSlowPath, EntersSlowPath}
-use Rattle.lk_law.specs.Agree.{Knows, halts, Owed}
-use Rattle.lk_law.specs.World.{World}
-use Rattle.lk_law.specs.Places.{snapshot, phase_of, phase_on, phase_at, phase_if, post_of}
-use Rattle.lk_law.specs.Places.{post_on, post_at, post_if, stage_of, stage_on, stage_at, stage_if}
-use Rattle.lk_law.specs.Places.{kept_in, own_in, slow_in}
-use Rattle.lk_law.specs.Families.{is_slow}
-use Rattle.lk_law.specs.Families.{may_halt}
-use Rattle.lk_law.specs.Registers.{RegistersFit}
-use Rattle.lk_law.specs.SpinWorld.{IsPlain}
-use Rattle.lk_law.specs.SpinWorld.{IsSoundSpinWorld}
-use Rattle.lk_law.specs.Premises.{IsNewest}
+use Rattle.std.proofs.Common.{false, arith, ap, ◌+◌, refl, sym, ◌∙◌, subst, if◌then◌else◌, is_some}
+use Rattle.lk_law.proofs.Names.{Fields, NodeName, LockHistory, is_local, same_lock, LockName, Mode}
+use Rattle.lk_law.proofs.Names.{Waiter, node_of, Frame, Pc, C2, C3, C4, C5, C6, C7, C8, C9, C10}
+use Rattle.lk_law.proofs.Names.{E12, W6, EntersSlowPath, Knows, LeavesSlowPath, Owed}
+use Rattle.lk_law.proofs.Names.{SnapshotAgrees, Stays, Step, halts, is_slow, may_halt, Phase, Holds}
+use Rattle.lk_law.proofs.Names.{Idle, kept_in, own_in, phase_at, phase_if, phase_of, phase_on}
+use Rattle.lk_law.proofs.Names.{post_at, post_if, post_of, post_on, slow_in, snapshot, stage_at}
+use Rattle.lk_law.proofs.Names.{stage_if, stage_of, stage_on, IsNewest, Post, at_halt, Kicks, Off}
+use Rattle.lk_law.proofs.Names.{RegistersFit, Moves, spins, IsPlain, IsSoundSpinWorld, Stage, Rests}
+use Rattle.lk_law.proofs.Names.{World}
 use Rattle.lk_law.proofs.common.Cases.{waiter_cases}
-use Rattle.lk_law.proofs.common.Sames.{same_lock-self}
 use Rattle.lk_law.proofs.common.Puts.{if-true, if-false, same_lock-else}
+use Rattle.lk_law.proofs.common.Sames.{same_lock-self}
+use Rattle.lk_law.specs.Agree.{IsOnTop}
 
 pub phase_on-here : (l : LockName) (f : Frame) → f.lock ≡ l → phase_on l (Some f) ≡ phase_of f
 phase_on-here l f e =

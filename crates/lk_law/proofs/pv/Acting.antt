@@ -1,56 +1,26 @@
 -- A frame at a row of a sound world in which processors halt: what a row makes of the world, its
 -- posts, the kicks that are owed, and what its frame knows.
 use Rattle.std.proofs.Common.{◌≡◌, ◌≢◌, ◌<◌, inl, ℕ, Option, Some, None, Bool, true, false, arith}
-use Rattle.std.proofs.Common.{ap, ◌-◌, refl, sym, ◌∙◌, subst, slice_get}
-use Rattle.std.specs.Prelude.{is_some, ◌≤◌}
-use Rattle.lk_names.specs.declared.holder.Manner.{Manner}
-use Rattle.lk_names.specs.declared.names.Waiter.{Waiter}
-use Rattle.lk_names.specs.declared.names.LockName.{LockName}
-use Rattle.lk_word.specs.declared.spin_word.NodeName.{NodeName}
-use Rattle.lk_word.specs.declared.spin_word.Fields.{Fields}
-use Rattle.lk_rows.specs.declared.parts.Flag.TheVariants.{Second}
-use Rattle.lk_rows.specs.declared.parts.Frame.{Frame}
-use Rattle.lk_rows.specs.declared.parts.Node.{Node}
-use Rattle.lk_rows.specs.declared.parts.Pc.{Pc}
-use Rattle.lk_rows.specs.declared.parts.Pc.TheVariants.{G5, G11}
-use Rattle.lk_rows.specs.Moves.{node_of}
-use Rattle.lk_rows.specs.Row.{Tell}
-use Rattle.lk_rows.specs.declared.parts.Flag.{Flag}
-use Rattle.lk_rows.specs.declared.parts.State.{State}
-use Rattle.lk_rows.specs.rows.Pv.{is_set}
-use Rattle.lk_law.specs.Phase.Phase.{Waits}
-use Rattle.lk_law.specs.Phase.{Phase, has_node, leads}
-use Rattle.lk_law.specs.Pv.{Post, at_halt}
-use Rattle.lk_law.specs.Pv.Post.{Kicks}
-use Rattle.lk_law.specs.Snapshot.{Moves, Rewrites, spins}
-use Rattle.lk_law.specs.Agree.{SnapshotAgrees, Step, Stays, LeavesSlowPath, halts, Owed, node_state}
-use Rattle.lk_law.specs.World.{World}
-use Rattle.lk_law.specs.Places.{snapshot, phase_of, phase_at, post_of, post_at, post_if}
-use Rattle.lk_law.specs.Places.{post_on}
-use Rattle.lk_law.specs.Families.{is_slow}
-use Rattle.lk_law.specs.Steps.{put_node, put_entry, put_queued}
-use Rattle.lk_law.specs.Families.{chooses}
-use Rattle.lk_law.specs.Registers.{hands_plainly, needs_hash, names_next}
-use Rattle.lk_law.specs.Families.{may_halt, stays_awake}
-use Rattle.lk_law.specs.Registers.{sees_peer, counts_turns, is_unaware, RegistersFit}
-use Rattle.lk_law.specs.SpinWorld.{IsPlain}
-use Rattle.lk_law.specs.Steps.{told_event, told_on}
-use Rattle.lk_law.specs.Places.{stage_of, stage_if}
-use Rattle.lk_law.specs.Allowed.{MayFollowIfAny}
-use Rattle.lk_law.proofs.common.Puts.{put_number-here, put_number-else, put_word-else, put_rewrites}
-use Rattle.lk_law.proofs.common.Worlds.{world_owes, sole_sleeper, post_on-here}
-use Rattle.lk_law.proofs.pv.Outside.{Posted}
-use Rattle.lk_law.proofs.pv.Laws.{halts_flat, para_queue}
-use Rattle.lk_law.proofs.common.Turns.{Turn, turned}
-use Rattle.lk_law.proofs.common.Choices.{unchosen}
-use Rattle.lk_law.proofs.common.TurnSteps.{turn_moves, turn_step_of, turn_stays}
-use Rattle.lk_law.proofs.common.TurnSteps.{turn_leaves, turn_post, turn_sound, turn_knows}
-use Rattle.lk_law.proofs.common.Turns.{queued_turn}
-use Rattle.lk_law.proofs.common.Turns.{node_turn}
-use Rattle.lk_law.specs.Stage.Stage.{Rests}
-use Rattle.lk_law.proofs.spin.Laws.{law_same, step_same}
+use Rattle.std.proofs.Common.{ap, ◌-◌, refl, sym, ◌∙◌, subst, slice_get, is_some, ◌≤◌}
+use Rattle.lk_law.proofs.Names.{Fields, NodeName, Manner, LockName, Waiter, node_of, Tell, Flag}
+use Rattle.lk_law.proofs.Names.{Second, Frame, Node, Pc, G5, G11, State, is_set, LeavesSlowPath}
+use Rattle.lk_law.proofs.Names.{Owed, SnapshotAgrees, Stays, Step, halts, node_state}
+use Rattle.lk_law.proofs.Names.{MayFollowIfAny, chooses, is_slow, may_halt, stays_awake, Phase}
+use Rattle.lk_law.proofs.Names.{has_node, leads, Waits, phase_at, phase_of, post_at, post_if}
+use Rattle.lk_law.proofs.Names.{post_of, post_on, snapshot, stage_if, stage_of, Post, at_halt}
+use Rattle.lk_law.proofs.Names.{Kicks, RegistersFit, counts_turns, hands_plainly, is_unaware}
+use Rattle.lk_law.proofs.Names.{names_next, needs_hash, sees_peer, Moves, Rewrites, spins, IsPlain}
+use Rattle.lk_law.proofs.Names.{Rests, put_entry, put_node, put_queued, told_event, told_on, World}
 use Rattle.lk_law.proofs.common.Acting.{Acting, StandsIn, Kept, fit_here, phase_here, phase_shown}
 use Rattle.lk_law.proofs.common.Acting.{own_here, slow_here, some_queued, fixed_stage}
+use Rattle.lk_law.proofs.common.Choices.{unchosen}
+use Rattle.lk_law.proofs.common.Puts.{put_number-here, put_number-else, put_word-else, put_rewrites}
+use Rattle.lk_law.proofs.common.TurnSteps.{turn_moves, turn_step_of, turn_stays, turn_leaves}
+use Rattle.lk_law.proofs.common.TurnSteps.{turn_post, turn_sound, turn_knows}
+use Rattle.lk_law.proofs.common.Turns.{Turn, turned, queued_turn, node_turn}
+use Rattle.lk_law.proofs.common.Worlds.{world_owes, sole_sleeper, post_on-here}
+use Rattle.lk_law.proofs.{pv.Laws.{halts_flat, para_queue}, pv.Outside.Posted}
+use Rattle.lk_law.proofs.spin.Laws.{law_same, step_same}
 
 halt_facts : (d : Pc) → may_halt d ≡ true
     → (chooses d ≡ false) × (stays_awake d ≡ false) × (hands_plainly d ≡ false) × (d ≢ G5)

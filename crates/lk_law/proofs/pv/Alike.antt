@@ -1,26 +1,14 @@
 -- What the events say of halts and kicks, and what one frame that moves changes of it.
 use Rattle.std.proofs.Common.{◌≡◌, ◌≢◌, inl, inr, ℕ, Option, Some, Bool, true, false, List, [], ◌∷◌}
-use Rattle.std.proofs.Common.{◌++◌, arith, ap, ◌+◌, ◌<◌, refl, sym, ◌∙◌, subst}
-use Rattle.std.specs.Prelude.{◌==◌, if◌then◌else◌}
-use Rattle.std.proofs.lemmas.Bool.{cases_Bool, eqb-true}
+use Rattle.std.proofs.Common.{◌++◌, arith, ap, ◌+◌, ◌<◌, refl, sym, ◌∙◌, subst, ◌==◌, if◌then◌else◌}
+use Rattle.lk_law.proofs.Names.{cases_Bool, eqb-true, sleeps, Event, What, LockName, Waiter}
+use Rattle.lk_law.proofs.Names.{Nothing, Passes, Says, Tell, Frame, U5, ShowsKicks, post_of}
+use Rattle.lk_law.proofs.Names.{at_halt, Moves, told_event, World}
 use Rattle.lk_names.specs.Kicks.{sleeps_after, sleeps_from, owes, kicks, owing, kicks_made}
-use Rattle.lk_names.specs.Kicks.{kicked_after, is_kicked_from, is_kicked, sleeps}
-use Rattle.lk_names.specs.declared.names.Waiter.{Waiter}
-use Rattle.lk_names.specs.declared.names.LockName.{LockName}
-use Rattle.lk_names.specs.declared.events.Event.{Event}
-use Rattle.lk_names.specs.declared.events.What.{What}
-use Rattle.lk_rows.specs.declared.parts.Frame.{Frame}
-use Rattle.lk_rows.specs.declared.parts.Pc.TheVariants.{U5}
-use Rattle.lk_rows.specs.Row.{Tell, Nothing, Says, Passes}
-use Rattle.lk_law.specs.Pv.{at_halt}
-use Rattle.lk_law.specs.Snapshot.{Moves}
-use Rattle.lk_law.specs.World.{World}
-use Rattle.lk_law.specs.Places.{post_of}
-use Rattle.lk_law.specs.Steps.{told_event}
-use Rattle.lk_law.specs.Kicked.{with_event, Owes, AreOwing, ShowsKicks}
-use Rattle.lk_law.proofs.common.Cases.{waiter_cases}
-use Rattle.lk_law.proofs.common.Puts.{if-true, if-false, not-true}
+use Rattle.lk_names.specs.Kicks.{kicked_after, is_kicked_from, is_kicked}
+use Rattle.lk_law.proofs.{common.Cases.waiter_cases, common.Puts.{if-true, if-false, not-true}}
 use Rattle.lk_law.proofs.pv.Quiet.{is_quiet, quiet_tell}
+use Rattle.lk_law.specs.Kicked.{with_event, Owes, AreOwing}
 
 pub sleeps_on : (u : Waiter) (es : List Event) (e : Event)
     → sleeps u (es ++ e ∷ []) ≡ sleeps_after u (sleeps u es) e

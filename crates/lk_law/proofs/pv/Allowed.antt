@@ -1,22 +1,12 @@
 -- The events of the paravirtual lock are allowed on the histories before them. A steal is a take
 -- past the queue, and E15 hands on as the other families do.
 use Rattle.std.proofs.Common.{◌≡◌, ℕ, Option, Some, None, true, false, arith, refl}
-use Rattle.lk_names.specs.Lawful.{Rules}
-use Rattle.lk_names.specs.History.{LockHistory}
-use Rattle.lk_names.specs.declared.holder.Manner.TheVariants.{Spins}
-use Rattle.lk_names.specs.declared.names.Waiter.{Waiter}
-use Rattle.lk_names.specs.declared.names.LockName.{LockName}
-use Rattle.lk_names.specs.declared.events.How.TheVariants.{Head, Steal}
-use Rattle.lk_names.specs.declared.events.What.TheVariants.{Take, Leave, Release}
-use Rattle.lk_word.specs.declared.spin_word.Locked.TheVariants.{Free}
-use Rattle.lk_law.specs.Phase.{queues, leads}
-use Rattle.lk_law.specs.Phase.Phase.{Holds, Releases}
-use Rattle.lk_law.specs.Snapshot.{Snapshot}
-use Rattle.lk_law.specs.Agree.{SnapshotAgrees}
-use Rattle.lk_law.specs.Allowed.{MayFollow}
-use Rattle.lk_law.proofs.common.Told.{sole_freed}
-use Rattle.lk_law.proofs.common.Holders.{holds_alone}
+use Rattle.lk_law.proofs.Names.{Free, LockHistory, Rules, Head, Leave, Release, Take, Spins}
+use Rattle.lk_law.proofs.Names.{LockName, Waiter, SnapshotAgrees, MayFollow, leads, queues, Holds}
+use Rattle.lk_law.proofs.Names.{Releases, Snapshot}
+use Rattle.lk_names.specs.declared.events.How.TheVariants.{Steal}
 use Rattle.lk_law.proofs.common.Allowed.{on_lock, shared_by, first_is, outside, take_on, allow_take}
+use Rattle.lk_law.proofs.{common.Holders.holds_alone, common.Told.sole_freed}
 
 module _ (rules : Rules) {s : Snapshot} {hs : LockName → LockHistory} (ok : SnapshotAgrees s hs)
     (w : Waiter) (l : LockName) where

@@ -1,24 +1,15 @@
 use Rattle.std.proofs.Common.{◌≡◌, ◌≢◌, Option, Some, None, Bool, true, false, ◌⊎◌, inl, inr, arith}
 use Rattle.std.proofs.Common.{ap, refl, sym, ◌∙◌, subst}
-use Rattle.std.proofs.lemmas.Bool.{cases_Bool}
-use Rattle.lk_names.specs.declared.names.Waiter.{Waiter}
-use Rattle.lk_word.specs.declared.spin_word.NodeName.{NodeName}
-use Rattle.lk_word.specs.declared.spin_word.Locked.{Locked}
-use Rattle.lk_word.specs.declared.spin_word.Locked.TheVariants.{Free, Held, Slow}
-use Rattle.lk_rows.specs.declared.parts.State.{State}
-use Rattle.lk_rows.specs.declared.parts.State.TheVariants.{Halted, Hashed}
-use Rattle.lk_law.specs.Snapshot.{Moves}
-use Rattle.lk_law.specs.Pv.{Post, PostsAgree, bare, post_full, touches, slow_at, one_at, calls}
-use Rattle.lk_law.specs.Pv.{slowing}
-use Rattle.lk_law.specs.Pv.{dozes, names, post_holds, fronts, raw, fits}
-use Rattle.lk_law.specs.Pv.Post.{Off, Sleeps, Tries, Naps, Has, Calls, Slowing}
-use Rattle.lk_law.proofs.common.Cases.{waiter_cases}
+use Rattle.lk_law.proofs.Names.{cases_Bool, Locked, Free, Held, Slow, NodeName, Waiter, State}
+use Rattle.lk_law.proofs.Names.{Halted, Hashed, Post, PostsAgree, bare, calls, dozes, fits, fronts}
+use Rattle.lk_law.proofs.Names.{names, one_at, post_full, post_holds, raw, slow_at, slowing}
+use Rattle.lk_law.proofs.Names.{touches, Calls, Has, Naps, Off, Sleeps, Slowing, Tries, Moves}
+use Rattle.lk_law.proofs.{common.Cases.waiter_cases, pv.Met.Met}
 use Rattle.lk_law.proofs.pv.Slow.{touches-holds, calls-holds, slowing-holds, slow_at-holds}
 use Rattle.lk_law.proofs.pv.Slow.{one_at-holds}
 use Rattle.lk_law.proofs.pv.Turn.{was_true, still_true, as_before, follows_post, not_slow}
 use Rattle.lk_law.proofs.pv.Turn.{some-cases, full-fronts, names-holds, bare-holds, halted-follows}
 use Rattle.lk_law.proofs.pv.Turn.{follows-fit, follows-doze}
-use Rattle.lk_law.proofs.pv.Met.{Met}
 
 module _ {locked : Locked} {entry : Option NodeName} {front : Option Waiter}
     {post : Waiter → Post} {state : Waiter → State} {own : Waiter → NodeName}

@@ -1,50 +1,34 @@
 -- The laws of the rows of the paravirtual lock in which the phase, the hash or the byte changes.
 use Rattle.std.proofs.Common.{◌≡◌, ◌≢◌, Option, Some, None, Bool, true, false, ◌⊎◌, inl, inr, arith}
 use Rattle.std.proofs.Common.{ap, refl, sym, ◌∙◌, subst, slice_get, drop}
-use Rattle.lk_names.specs.declared.events.Event.{Event}
-use Rattle.lk_names.specs.History.{LockHistory, told, with_holder}
+use Rattle.lk_law.proofs.Names.{Locked, Free, Held, Slow, NodeName, get-drop_one, LockHistory, told}
+use Rattle.lk_law.proofs.Names.{with_holder, Event, Head, Leave, Pass, Release, Take, LockName}
+use Rattle.lk_law.proofs.Names.{Waiter, Go, Node, Halted, Hashed, LeavesSlowPath, Owed}
+use Rattle.lk_law.proofs.Names.{SnapshotAgrees, Stays, Step, halts, node_state, Phase, has_node}
+use Rattle.lk_law.proofs.Names.{leads, pends, queues, watches, Hands, Holds, Idle, Leads, Prepared}
+use Rattle.lk_law.proofs.Names.{Presses, Releases, Seeks, Waits, Post, PostsAgree, agrees, at_halt}
+use Rattle.lk_law.proofs.Names.{bare, fronts, post_holds, Calls, Clears, Drops, Erases, Finds, Has}
+use Rattle.lk_law.proofs.Names.{Kicks, Marks, Naps, Off, Rises, Signing, Signs, Sleeps, Slowing}
+use Rattle.lk_law.proofs.Names.{Slows, Stirs, Tries, Wins, Moves, Rewrites, Snapshot}
+use Rattle.lk_names.specs.declared.events.How.TheVariants.{Steal}
 use Rattle.lk_names.specs.declared.holder.Manner.TheVariants.{Spins as SpinHold}
-use Rattle.lk_names.specs.declared.names.Waiter.{Waiter}
-use Rattle.lk_names.specs.declared.names.LockName.{LockName}
-use Rattle.lk_names.specs.declared.events.How.TheVariants.{Head, Steal}
-use Rattle.lk_names.specs.declared.events.What.TheVariants.{Take, Release, Pass, Leave}
-use Rattle.lk_word.specs.declared.spin_word.NodeName.{NodeName}
-use Rattle.lk_word.specs.declared.spin_word.Locked.{Locked}
-use Rattle.lk_word.specs.declared.spin_word.Locked.TheVariants.{Free, Held, Slow}
-use Rattle.lk_rows.specs.declared.parts.State.TheVariants.{Halted, Hashed}
-use Rattle.lk_rows.specs.declared.parts.Flag.TheVariants.{Go}
-use Rattle.lk_rows.specs.declared.parts.Node.{Node}
-use Rattle.lk_law.proofs.pv.Outside.{Posted, para_outside}
-use Rattle.lk_law.proofs.common.Frame.{nodes_leave, agrees_after}
-use Rattle.lk_law.proofs.common.Told.{told_lock, told_others, sole_taken}
-use Rattle.lk_law.proofs.spin.Pend.{pend_keep}
-use Rattle.lk_law.proofs.spin.Hold.{hold_take}
-use Rattle.lk_law.specs.Phase.{Phase, has_node, queues, leads, pends, watches}
-use Rattle.lk_law.specs.Phase.Phase.{Idle, Seeks, Waits, Leads, Presses, Holds, Hands, Releases}
-use Rattle.lk_law.specs.Phase.Phase.{Tends, Prepared}
-use Rattle.lk_law.specs.Pv.{Post, PostsAgree, agrees, post_holds, fronts, bare, at_halt}
-use Rattle.lk_law.specs.Pv.Post.{Off, Spins, Rises, Tries, Signs, Slows, Wins, Erases, Marks, Has}
-use Rattle.lk_law.specs.Pv.Post.{Calls, Slowing, Signing, Finds, Drops, Kicks, Sleeps, Stirs, Naps}
-use Rattle.lk_law.specs.Pv.Post.{Clears}
-use Rattle.lk_law.specs.Snapshot.{Snapshot, Moves, Rewrites}
-use Rattle.lk_law.specs.Agree.{SnapshotAgrees, Step, Stays, LeavesSlowPath, Owed, halts, node_state}
 use Rattle.lk_law.proofs.common.Cases.{waiter_cases, node_cases}
-use Rattle.lk_law.proofs.common.Puts.{put_moves}
-use Rattle.lk_names.proofs.ByIndex.{get-drop_one}
 use Rattle.lk_law.proofs.common.Families.{lists_main, lists_rest}
-use Rattle.lk_law.proofs.spin.Laws.{SameNodes, lists_outside}
-use Rattle.lk_law.proofs.queue.Laws.{own_is}
-use Rattle.lk_law.proofs.pv.Keep.{pv_keep}
-use Rattle.lk_law.proofs.pv.Rows.{w1_rise, e5_mark, e5_sign, w6_wake, e12_wake}
-use Rattle.lk_law.proofs.pv.Turn.{e6_sign, e7_slow, e8_plain, e9_erase, follows_post}
-use Rattle.lk_law.proofs.pv.Slow.{k2_slow, k3_sign, u3_find, u4_drop, u5_kick}
+use Rattle.lk_law.proofs.{common.Frame.{nodes_leave, agrees_after}, common.Puts.put_moves}
+use Rattle.lk_law.proofs.common.Told.{told_lock, told_others, sole_taken}
 use Rattle.lk_law.proofs.pv.Calls.{k1_hash, k1_done, e4_take, e15_pass, pv_byte}
+use Rattle.lk_law.proofs.{pv.Ends.e13_leave, pv.Keep.pv_keep}
 use Rattle.lk_law.proofs.pv.Laws.{para, para_queue, para_taken, para_leads, para_holds, law_rise}
 use Rattle.lk_law.proofs.pv.Laws.{law_press, law_unpress, law_grab, law_grab_slow, law_drop}
 use Rattle.lk_law.proofs.pv.Laws.{law_kick, law_learn, law_call, law_leave, law_done, no_claims}
-use Rattle.lk_law.proofs.pv.Laws.{law_still, posts_met}
-use Rattle.lk_law.proofs.pv.Ends.{e13_leave}
+use Rattle.lk_law.proofs.{pv.Laws.{law_still, posts_met}, pv.Outside.{Posted, para_outside}}
+use Rattle.lk_law.proofs.pv.Rows.{w1_rise, e5_mark, e5_sign, w6_wake, e12_wake}
+use Rattle.lk_law.proofs.pv.Slow.{k2_slow, k3_sign, u3_find, u4_drop, u5_kick}
 use Rattle.lk_law.proofs.pv.StayLaws.{law_looks, law_says, same_state}
+use Rattle.lk_law.proofs.pv.Turn.{e6_sign, e7_slow, e8_plain, e9_erase, follows_post}
+use Rattle.lk_law.proofs.{queue.Laws.own_is, spin.Hold.hold_take}
+use Rattle.lk_law.proofs.{spin.Laws.{SameNodes, lists_outside}, spin.Pend.pend_keep}
+use Rattle.lk_law.specs.{Phase.Phase.Tends, Pv.Post.Spins}
 
 -- what was said of the states and the nodes before is true of them afterwards, where no node
 -- changed

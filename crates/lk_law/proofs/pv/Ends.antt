@@ -1,21 +1,12 @@
 use Rattle.std.proofs.Common.{◌≡◌, ◌≢◌, Option, Some, None, true, ◌⊎◌, inl, inr, ap, refl, sym, ◌∙◌}
-use Rattle.std.proofs.lemmas.Bool.{cases_Bool}
-use Rattle.lk_names.specs.declared.names.Waiter.{Waiter}
-use Rattle.lk_word.specs.declared.spin_word.NodeName.{NodeName}
-use Rattle.lk_word.specs.declared.spin_word.Locked.{Locked}
-use Rattle.lk_word.specs.declared.spin_word.Locked.TheVariants.{Slow}
-use Rattle.lk_rows.specs.declared.parts.State.{State}
-use Rattle.lk_rows.specs.declared.parts.State.TheVariants.{Running}
-use Rattle.lk_law.specs.Snapshot.{Moves}
-use Rattle.lk_law.specs.Pv.{Post, PostsAgree, bare, post_full, touches, slow_at, one_at, calls}
-use Rattle.lk_law.specs.Pv.{slowing}
-use Rattle.lk_law.specs.Pv.{dozes, names, post_holds, fronts}
-use Rattle.lk_law.specs.Pv.Post.{Off, Joins, Spins, Rises, Has, Slowing, Signing, Finds, Drops}
-use Rattle.lk_law.proofs.common.Cases.{waiter_cases}
-use Rattle.lk_law.proofs.pv.Turn.{pv_step, was_true, still_true, as_before, some-cases}
-use Rattle.lk_law.proofs.pv.Turn.{full-fronts, names-holds}
-use Rattle.lk_law.proofs.pv.Calls.{has-none}
-use Rattle.lk_law.proofs.pv.Met.{Met}
+use Rattle.lk_law.proofs.Names.{cases_Bool, Locked, Slow, NodeName, Waiter, State, Running, Post}
+use Rattle.lk_law.proofs.Names.{PostsAgree, bare, calls, dozes, fronts, names, one_at, post_full}
+use Rattle.lk_law.proofs.Names.{post_holds, slow_at, slowing, touches, Drops, Finds, Has, Joins}
+use Rattle.lk_law.proofs.Names.{Off, Rises, Signing, Slowing, Moves}
+use Rattle.lk_law.proofs.{common.Cases.waiter_cases, pv.Calls.has-none, pv.Met.Met}
+use Rattle.lk_law.proofs.pv.Turn.{pv_step, was_true, still_true, as_before, some-cases, full-fronts}
+use Rattle.lk_law.proofs.pv.Turn.{names-holds}
+use Rattle.lk_law.specs.Pv.Post.{Spins}
 
 module _ {locked : Locked} {entry : Option NodeName} {front : Option Waiter}
     {post : Waiter → Post} {state : Waiter → State} {own : Waiter → NodeName}

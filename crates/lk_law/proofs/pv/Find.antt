@@ -1,32 +1,16 @@
 -- U2, the byte not 1: the releaser will look into the hash, in which it finds its lock. And the
 -- events that change no history.
 use Rattle.std.proofs.Common.{◌≡◌, ◌≢◌, Option, Some, None, Bool, true, false, inl, arith, ap, refl}
-use Rattle.std.proofs.Common.{sym, ◌∙◌, subst}
-use Rattle.std.proofs.lemmas.Bool.{cases_Bool}
-use Rattle.std.specs.Prelude.{is_some}
-use Rattle.lk_names.specs.Names.{same_lock}
-use Rattle.lk_names.specs.History.{LockHistory, told}
-use Rattle.lk_names.specs.Lawful.{Rules}
-use Rattle.lk_names.specs.declared.names.Waiter.{Waiter}
-use Rattle.lk_names.specs.declared.names.LockName.{LockName}
-use Rattle.lk_names.specs.declared.events.What.TheVariants.{Halt, Wake}
-use Rattle.lk_word.specs.declared.spin_word.NodeName.{NodeName}
-use Rattle.lk_word.specs.declared.spin_word.Locked.{Locked}
-use Rattle.lk_word.specs.declared.spin_word.Locked.TheVariants.{Free, Held, Slow}
-use Rattle.lk_rows.specs.declared.parts.State.{State}
-use Rattle.lk_law.specs.Phase.Phase.{Releases}
-use Rattle.lk_law.specs.Pv.{Post, PostsAgree, bare, post_full, slow_at, one_at, calls, dozes, names}
-use Rattle.lk_law.specs.Pv.{post_holds, raw}
-use Rattle.lk_law.specs.Pv.Post.{Off, Finds}
-use Rattle.lk_law.specs.Snapshot.{Snapshot, Moves}
-use Rattle.lk_law.specs.Agree.{SnapshotAgrees, Step, Stays, Owed, halts, node_state}
-use Rattle.lk_law.specs.Allowed.{MayFollow}
-use Rattle.lk_law.proofs.common.Cases.{waiter_cases}
-use Rattle.lk_law.proofs.common.Allowed.{on_lock, shared_by}
-use Rattle.lk_law.proofs.spin.Laws.{SameNodes}
+use Rattle.std.proofs.Common.{sym, ◌∙◌, subst, is_some}
+use Rattle.lk_law.proofs.Names.{cases_Bool, Locked, Free, Held, Slow, NodeName, LockHistory, told}
+use Rattle.lk_law.proofs.Names.{Rules, same_lock, Halt, Wake, LockName, Waiter, State, Owed}
+use Rattle.lk_law.proofs.Names.{SnapshotAgrees, Stays, Step, halts, node_state, MayFollow, Releases}
+use Rattle.lk_law.proofs.Names.{Post, PostsAgree, bare, calls, dozes, names, one_at, post_full}
+use Rattle.lk_law.proofs.Names.{post_holds, raw, slow_at, Finds, Off, Moves, Snapshot}
+use Rattle.lk_law.proofs.{common.Allowed.{on_lock, shared_by}, common.Cases.waiter_cases}
+use Rattle.lk_law.proofs.{pv.Laws.{para, para_only}, pv.StayLaws.law_looks}
 use Rattle.lk_law.proofs.pv.Turn.{was_true, still_true, as_before, bare-holds}
-use Rattle.lk_law.proofs.pv.Laws.{para, para_only}
-use Rattle.lk_law.proofs.pv.StayLaws.{law_looks}
+use Rattle.lk_law.proofs.spin.Laws.{SameNodes}
 
 pub u2_find : (locked : Locked) (entry : Option NodeName) (front : Option Waiter)
     (post post' : Waiter → Post) (state : Waiter → State) (own : Waiter → NodeName)

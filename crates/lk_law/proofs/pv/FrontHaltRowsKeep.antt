@@ -1,37 +1,24 @@
 -- The rows of a front of the paravirtual lock from its entry in the hash to its halt keep every
 -- sound world: E6 to E12.
 use Rattle.std.proofs.Common.{◌≡◌, ℕ, Some, None, true, false, [], ◌∷◌, arith, ap, refl, ◌∙◌}
-use Rattle.lk_word.specs.declared.spin_word.Locked.TheVariants.{Held, Slow}
-use Rattle.lk_rows.specs.declared.parts.State.TheVariants.{Hashed}
-use Rattle.lk_rows.specs.declared.parts.Frame.{Frame}
-use Rattle.lk_rows.specs.declared.parts.Pc.{Pc}
-use Rattle.lk_rows.specs.declared.parts.Pc.TheVariants.{E2, E6, E7, E8, E9, E10, E11, E12, E13}
-use Rattle.lk_rows.specs.Moves.{node_of}
-use Rattle.lk_rows.specs.Row.{Nothing, Says, Goes, HashedIs, looks}
-use Rattle.lk_rows.specs.rows.Spin.{is_unlocked}
-use Rattle.lk_rows.specs.rows.Pv.{with_byte, is_slow_byte}
-use Rattle.lk_law.specs.Phase.{has_node, seeks}
-use Rattle.lk_law.specs.Pv.Post.{Clears}
-use Rattle.lk_law.specs.Agree.{Owed}
-use Rattle.lk_law.specs.Places.{snapshot}
-use Rattle.lk_law.specs.Steps.{put_word, put_node, put_entry, put_halted, lead_on}
-use Rattle.lk_law.specs.SpinLaws.{SpinRowKeeps}
-use Rattle.lk_law.proofs.common.Puts.{if_cases, put_word-here}
-use Rattle.lk_law.proofs.common.Turns.{Turn, turned, same_turn, word_turn}
-use Rattle.lk_law.proofs.common.TurnSteps.{node_plain}
+use Rattle.lk_law.proofs.Names.{Held, Slow, node_of, Goes, HashedIs, Nothing, Says, looks, Frame}
+use Rattle.lk_law.proofs.Names.{Pc, E2, E6, E7, E8, E9, E10, E11, E12, E13, Hashed, is_slow_byte}
+use Rattle.lk_law.proofs.Names.{with_byte, is_unlocked, Owed, has_node, seeks, snapshot, Clears}
+use Rattle.lk_law.proofs.Names.{SpinRowKeeps, lead_on, put_entry, put_node, put_word}
 use Rattle.lk_law.proofs.common.Acting.{Acting, StandsIn, Kept, row_keeps_halting, fit_here}
 use Rattle.lk_law.proofs.common.Acting.{phase_here, held_not}
-use Rattle.lk_law.proofs.spin.RowsKeep.{WordKept, unlocked_free}
-use Rattle.lk_law.proofs.queue.ArriveRowsKeep.{own_node_here}
+use Rattle.lk_law.proofs.{common.Puts.{if_cases, put_word-here}, common.TurnSteps.node_plain}
+use Rattle.lk_law.proofs.common.Turns.{Turn, turned, same_turn, word_turn}
 use Rattle.lk_law.proofs.pv.Acting.{fit_halting, halting_plain, post_here, hm_posts, hm_posted}
 use Rattle.lk_law.proofs.pv.Acting.{hm_owed, hm_step, hm_stays, hm_kept, hm_same, flags_here}
-use Rattle.lk_law.proofs.pv.Acting.{state_turn, entry_turn, writes_here}
-use Rattle.lk_law.proofs.pv.StayLaws.{law_E10, law_E11_nap, law_E11_back}
+use Rattle.lk_law.proofs.{pv.Acting.{state_turn, entry_turn, writes_here}, pv.Allowed.allow_grab}
 use Rattle.lk_law.proofs.pv.EndLaws.{law_E6, law_E7_take, law_E7_mark, law_E8, law_E9}
 use Rattle.lk_law.proofs.pv.Find.{law_halt, allow_halt}
-use Rattle.lk_law.proofs.pv.Allowed.{allow_grab}
-use Rattle.lk_law.proofs.pv.WaitRowsKeep.{halt_only}
 use Rattle.lk_law.proofs.pv.FrontTryRowsKeep.{front_leads, slow_is}
+use Rattle.lk_law.proofs.pv.StayLaws.{law_E10, law_E11_nap, law_E11_back}
+use Rattle.lk_law.proofs.{pv.WaitRowsKeep.halt_only, queue.ArriveRowsKeep.own_node_here}
+use Rattle.lk_law.proofs.spin.RowsKeep.{WordKept, unlocked_free}
+use Rattle.lk_law.specs.Steps.{put_halted}
 use Rattle.lk_names.specs.declared.events.How.TheVariants as how
 use Rattle.lk_names.specs.declared.events.What.TheVariants as what
 

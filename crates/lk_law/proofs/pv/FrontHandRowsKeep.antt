@@ -1,44 +1,26 @@
 -- The rows of a front of the paravirtual lock that has taken it and hands the lead on keep every
 -- sound world: E13 to E15.
 use Rattle.std.proofs.Common.{◌≡◌, ℕ, Option, Some, None, true, [], ◌∷◌, ap, ◌-◌, refl, sym, ◌∙◌}
-use Rattle.std.proofs.Common.{slice_get}
-use Rattle.std.specs.Prelude.{◌&&◌, not}
-use Rattle.lk_names.specs.declared.holder.Manner.TheVariants.{Spins}
-use Rattle.lk_names.specs.declared.names.Waiter.{Waiter}
-use Rattle.lk_word.specs.declared.spin_word.NodeName.{NodeName}
-use Rattle.lk_word.specs.declared.spin_word.Fields.{Fields}
-use Rattle.lk_rows.specs.declared.parts.Frame.{Frame}
-use Rattle.lk_rows.specs.declared.parts.Pc.TheVariants.{E13, E14, E15, K1}
-use Rattle.lk_rows.specs.Moves.{is_node, node_of}
-use Rattle.lk_rows.specs.Row.{Nothing, Says, Passes, Goes, Y, looks, Leaves}
-use Rattle.lk_rows.specs.rows.Cna.{is_held, is_last}
-use Rattle.lk_rows.specs.rows.Pv.{pv_after_next}
-use Rattle.lk_law.specs.Phase.{seeks}
-use Rattle.lk_law.specs.Phase.Phase.{Idle, Holds, Hands}
-use Rattle.lk_law.specs.Agree.{Owed}
-use Rattle.lk_law.specs.Places.{snapshot}
-use Rattle.lk_law.specs.Steps.{put_word, put_node, put_queued, led, lead_on, stores_next}
-use Rattle.lk_law.specs.SpinLaws.{SpinRowKeeps}
-use Rattle.lk_law.specs.Premises.{Uses}
-use Rattle.lk_law.proofs.common.Puts.{if_cases, put_word-here, put_rewrites, put_moves}
-use Rattle.lk_law.proofs.common.Users.{is_node-true, used_noded, used_own}
-use Rattle.lk_law.proofs.common.Turns.{Turn, turned, same_turn, word_turn, node_turn}
-use Rattle.lk_law.proofs.common.TurnSteps.{node_plain}
-use Rattle.lk_law.proofs.common.Choices.{fit_quiet}
+use Rattle.std.proofs.Common.{slice_get, ◌&&◌, not}
+use Rattle.lk_law.proofs.Names.{Fields, NodeName, Spins, Waiter, is_node, node_of, Goes, Leaves}
+use Rattle.lk_law.proofs.Names.{Nothing, Passes, Says, Y, looks, Frame, E13, E14, E15, K1, is_held}
+use Rattle.lk_law.proofs.Names.{is_last, pv_after_next, Owed, seeks, Hands, Holds, Idle, snapshot}
+use Rattle.lk_law.proofs.Names.{Uses, SpinRowKeeps, lead_on, led, put_node, put_queued, put_word}
+use Rattle.lk_law.proofs.Names.{stores_next}
 use Rattle.lk_law.proofs.common.Acting.{Acting, StandsIn, Kept, row_keeps_halting, fit_here}
 use Rattle.lk_law.proofs.common.Acting.{phase_here, phase_shown, own_here, held_not, left_place}
 use Rattle.lk_law.proofs.common.Acting.{quiet_phase, quiet_off}
-use Rattle.lk_law.proofs.spin.RowsKeep.{WordKept}
-use Rattle.lk_law.proofs.queue.ArriveRowsKeep.{both-true}
-use Rattle.lk_law.proofs.pv.Laws.{para_queue, halts_flat}
+use Rattle.lk_law.proofs.{common.Allowed.{allow_pass, next_is}, common.Choices.fit_quiet}
+use Rattle.lk_law.proofs.common.Puts.{if_cases, put_word-here, put_rewrites, put_moves}
+use Rattle.lk_law.proofs.common.TurnSteps.{node_plain}
+use Rattle.lk_law.proofs.common.Turns.{Turn, turned, same_turn, word_turn, node_turn}
+use Rattle.lk_law.proofs.common.Users.{is_node-true, used_noded, used_own}
 use Rattle.lk_law.proofs.pv.Acting.{fit_halting, halting_plain, hm_posts, hm_owed, hm_step}
 use Rattle.lk_law.proofs.pv.Acting.{hm_step_as, hm_stays, hm_kept, hm_same, off_turn, off_leaves}
-use Rattle.lk_law.proofs.pv.Acting.{flags_here}
-use Rattle.lk_law.proofs.pv.EndLaws.{law_E13, law_E14, law_E15}
-use Rattle.lk_law.proofs.pv.Allowed.{allow_leave}
-use Rattle.lk_law.proofs.common.Allowed.{allow_pass, next_is}
-use Rattle.lk_law.proofs.queue.Sole.{sole_second}
-use Rattle.lk_law.proofs.queue.Laws.{apart_on}
+use Rattle.lk_law.proofs.{pv.Acting.flags_here, pv.Allowed.allow_leave}
+use Rattle.lk_law.proofs.{pv.EndLaws.{law_E13, law_E14, law_E15}, pv.Laws.{para_queue, halts_flat}}
+use Rattle.lk_law.proofs.{queue.ArriveRowsKeep.both-true, queue.Laws.apart_on}
+use Rattle.lk_law.proofs.{queue.Sole.sole_second, spin.RowsKeep.WordKept}
 use Rattle.lk_names.specs.declared.events.What.TheVariants as what
 use Rattle.lk_rows.specs.declared.parts.Flag.TheVariants as flag
 

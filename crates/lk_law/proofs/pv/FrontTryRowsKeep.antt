@@ -1,39 +1,23 @@
 -- The rows of a front of the paravirtual lock that tries to take it keep every sound world: E1 to
 -- E5.
-use Rattle.std.proofs.Common.{◌≡◌, ℕ, Some, true, false, [], ◌∷◌, ap, ◌-◌, refl, sym, ◌∙◌}
-use Rattle.std.specs.Prelude.{is_some, ◌&&◌, ◌==◌, not}
-use Rattle.lk_word.specs.declared.spin_word.Locked.{Locked}
-use Rattle.lk_word.specs.declared.spin_word.Locked.TheVariants.{Free, Held, Slow}
-use Rattle.lk_rows.specs.declared.parts.State.{State}
-use Rattle.lk_rows.specs.declared.parts.State.TheVariants.{Running, Halted, Hashed}
-use Rattle.lk_rows.specs.declared.parts.Frame.{Frame}
-use Rattle.lk_rows.specs.declared.parts.Pc.{Pc}
-use Rattle.lk_rows.specs.declared.parts.Pc.TheVariants.{E1, E2, E3, E4, E5, E6, E10, E13}
-use Rattle.lk_rows.specs.Moves.{node_of}
-use Rattle.lk_rows.specs.Row.{Nothing, Says, Goes, Left, HashedIs, learns, writes}
-use Rattle.lk_rows.specs.rows.Spin.{is_unlocked}
-use Rattle.lk_rows.specs.rows.Pv.{is_slow_byte, try_again, is_hashed}
-use Rattle.lk_law.specs.Phase.{Phase, seeks, leads}
-use Rattle.lk_law.specs.Pv.{not_hashed}
-use Rattle.lk_law.specs.Pv.Post.{Tries}
-use Rattle.lk_law.specs.Agree.{Owed}
-use Rattle.lk_law.specs.Places.{snapshot, phase_at}
-use Rattle.lk_law.specs.Steps.{put_word, put_node, lead_on}
-use Rattle.lk_law.specs.SpinLaws.{SpinRowKeeps}
-use Rattle.lk_law.proofs.common.Puts.{if_cases, put_word-here}
-use Rattle.lk_law.proofs.common.Turns.{Turn, turned, same_turn, word_turn}
-use Rattle.lk_law.proofs.common.TurnSteps.{node_plain}
+use Rattle.std.proofs.Common.{◌≡◌, ℕ, Some, true, false, [], ◌∷◌, ap, ◌-◌, refl, sym, ◌∙◌, is_some}
+use Rattle.std.proofs.Common.{◌&&◌, ◌==◌, not}
+use Rattle.lk_law.proofs.Names.{Locked, Free, Held, Slow, node_of, Goes, HashedIs, Left, Nothing}
+use Rattle.lk_law.proofs.Names.{Says, writes, Frame, Pc, E1, E2, E3, E4, E5, E6, E10, E13, State}
+use Rattle.lk_law.proofs.Names.{Halted, Hashed, Running, is_slow_byte, is_unlocked, Owed, Phase}
+use Rattle.lk_law.proofs.Names.{leads, seeks, phase_at, snapshot, not_hashed, Tries, SpinRowKeeps}
+use Rattle.lk_law.proofs.Names.{lead_on, put_node, put_word}
+use Rattle.lk_rows.specs.{Row.learns, rows.Pv.{try_again, is_hashed}}
 use Rattle.lk_law.proofs.common.Acting.{Acting, StandsIn, Kept, row_keeps_halting, phase_here}
 use Rattle.lk_law.proofs.common.Acting.{phase_shown, held_not}
-use Rattle.lk_law.proofs.spin.RowsKeep.{WordKept, unlocked_free}
-use Rattle.lk_law.proofs.queue.ArriveRowsKeep.{both-true}
+use Rattle.lk_law.proofs.{common.Puts.{if_cases, put_word-here}, common.TurnSteps.node_plain}
+use Rattle.lk_law.proofs.common.Turns.{Turn, turned, same_turn, word_turn}
 use Rattle.lk_law.proofs.pv.Acting.{fit_halting, halting_plain, hm_posts, hm_posted, hm_owed}
 use Rattle.lk_law.proofs.pv.Acting.{hm_step, hm_stays, hm_kept, hm_same, flags_here, state_turn}
-use Rattle.lk_law.proofs.pv.Acting.{state_here, writes_here}
-use Rattle.lk_law.proofs.pv.StayLaws.{law_E1, law_E2}
+use Rattle.lk_law.proofs.{pv.Acting.{state_here, writes_here}, pv.Allowed.allow_grab}
 use Rattle.lk_law.proofs.pv.EndLaws.{law_E3, law_E4_take, law_E5_mark, law_E5_sign}
-use Rattle.lk_law.proofs.pv.Allowed.{allow_grab}
-use Rattle.lk_law.proofs.pv.WaitRowsKeep.{positive}
+use Rattle.lk_law.proofs.{pv.StayLaws.{law_E1, law_E2}, pv.WaitRowsKeep.positive}
+use Rattle.lk_law.proofs.{queue.ArriveRowsKeep.both-true, spin.RowsKeep.{WordKept, unlocked_free}}
 use Rattle.lk_names.specs.declared.events.How.TheVariants as how
 use Rattle.lk_names.specs.declared.events.What.TheVariants as what
 

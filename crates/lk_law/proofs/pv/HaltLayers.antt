@@ -1,38 +1,22 @@
 -- A halt ends in a world with reader-writer locks; and who is owed a kick in it.
-use Rattle.lk_law.specs.Allowed.{MayFollow}
 use Rattle.std.proofs.Common.{◌≡◌, inl, inr, Option, Some, None, Bool, true, false, List, [], arith}
 use Rattle.std.proofs.Common.{ap, refl, sym, ◌∙◌, subst}
-use Rattle.lk_names.specs.History.{LockHistory, no_history, history_of}
-use Rattle.lk_names.specs.declared.holder.Manner.{Manner}
-use Rattle.lk_names.specs.Lawful.{FrontIsOwed, IsFront}
-use Rattle.lk_names.specs.declared.names.Kind.TheVariants.{Rw}
-use Rattle.lk_names.specs.declared.names.Waiter.{Waiter}
-use Rattle.lk_names.specs.declared.names.LockName.{LockName}
-use Rattle.lk_names.specs.declared.events.Event.{Event}
-use Rattle.lk_names.specs.declared.events.What.TheVariants.{Int}
-use Rattle.lk_rows.specs.Acts.{stands_halting, after_halt}
-use Rattle.lk_rows.specs.declared.parts.Frame.{Frame}
-use Rattle.lk_rows.specs.declared.parts.Pc.{Pc}
-use Rattle.lk_rows.specs.declared.parts.Pc.TheVariants.{W6, W7, E12, E2}
-use Rattle.lk_rows.specs.Moves.{rw_name}
-use Rattle.lk_rows.specs.Row.{Goes}
-use Rattle.lk_law.specs.World.{World}
-use Rattle.lk_law.specs.Steps.{put_frame, told_on}
-use Rattle.lk_law.specs.SpinLaws.{SpinEndsHalt}
-use Rattle.lk_law.specs.Premises.{roused, above}
-use Rattle.lk_law.specs.SoundWorld.{is_rw_name, spin_part, RwFits, IsSoundWorld}
-use Rattle.lk_law.specs.WorldLaws.{EndsHalt, WakeKeeps, NudgeKeeps, IntKeeps, InterruptKeeps}
-use Rattle.lk_law.specs.WorldLaws.{FrontsAreOwed}
+use Rattle.lk_law.proofs.Names.{LockHistory, no_history, IsFront, Event, Int, Manner, Rw, LockName}
+use Rattle.lk_law.proofs.Names.{Waiter, after_halt, stands_halting, rw_name, Goes, Frame, Pc, E2}
+use Rattle.lk_law.proofs.Names.{E12, W6, W7, MayFollow, roused, IsSoundWorld, RwFits, is_rw_name}
+use Rattle.lk_law.proofs.Names.{spin_part, put_frame, told_on, World}
+use Rattle.lk_names.specs.{History.history_of, Lawful.FrontIsOwed}
+use Rattle.lk_law.proofs.common.BothLayers.{IsOf, spin_done}
 use Rattle.lk_law.proofs.common.Puts.{if_cases, if-false, put_moves, not-true}
+use Rattle.lk_law.proofs.common.RowsMade.{onward}
 use Rattle.lk_law.proofs.pv.HaltsEnd.{sleeping_row, halted_sleeps, spin_wake_keeps}
 use Rattle.lk_law.proofs.pv.HaltsEnd.{spin_nudge_keeps, spin_int_keeps, roused_is_awake}
-use Rattle.lk_law.proofs.pv.HaltsEnd.{top_is_awake}
-use Rattle.lk_law.proofs.pv.Interrupts.{nobody_above, nobody_roused}
-use Rattle.lk_law.proofs.pv.HaltsShown.{front_is_owed}
+use Rattle.lk_law.proofs.{pv.HaltsEnd.top_is_awake, pv.HaltsShown.front_is_owed}
+use Rattle.lk_law.proofs.{pv.Interrupts.{nobody_above, nobody_roused}, rw.Begins.end_keeps}
 use Rattle.lk_law.proofs.rw.Else.{Put}
-use Rattle.lk_law.proofs.rw.Begins.{end_keeps}
-use Rattle.lk_law.proofs.common.BothLayers.{IsOf, spin_done}
-use Rattle.lk_law.proofs.common.RowsMade.{onward}
+use Rattle.lk_law.specs.{Premises.above, SpinLaws.SpinEndsHalt}
+use Rattle.lk_law.specs.WorldLaws.{EndsHalt, WakeKeeps, NudgeKeeps, IntKeeps, InterruptKeeps}
+use Rattle.lk_law.specs.WorldLaws.{FrontsAreOwed}
 
 -- The world after the end of a halt is the old one but for the frame, which has gone on behind it,
 -- and for halts and kicks.

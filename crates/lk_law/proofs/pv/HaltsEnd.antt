@@ -1,39 +1,19 @@
 -- A halt ends: by a kick, by a nudge, or by an interrupt.
 use Rattle.std.proofs.Common.{◌≡◌, ◌≢◌, ◌⊎◌, inl, inr, ℕ, Option, Some, None, Bool, true, false}
-use Rattle.std.proofs.Common.{arith, ap, refl, sym, ◌∙◌, subst}
-use Rattle.std.specs.Prelude.{is_some, ◌==◌, if◌then◌else◌}
-use Rattle.std.proofs.lemmas.Bool.{cases_Bool, eqb-true}
-use Rattle.lk_names.specs.Names.{same_waiter}
-use Rattle.lk_names.specs.History.{LockHistory}
-use Rattle.lk_names.specs.declared.names.Waiter.{Waiter}
-use Rattle.lk_names.specs.declared.names.LockName.{LockName}
-use Rattle.lk_word.specs.declared.spin_word.NodeName.{NodeName}
-use Rattle.lk_rows.specs.declared.parts.Frame.{Frame}
-use Rattle.lk_rows.specs.declared.parts.Pc.{Pc}
-use Rattle.lk_rows.specs.declared.parts.Pc.TheVariants.{W6, W7, E2, E12}
-use Rattle.lk_rows.specs.Acts.{after_halt, stands_halting}
-use Rattle.lk_rows.specs.Moves.{node_of}
-use Rattle.lk_law.specs.Phase.{Phase, has_node}
-use Rattle.lk_law.specs.Phase.Phase.{Waits, Leads}
-use Rattle.lk_law.specs.Pv.{Post, at_halt}
-use Rattle.lk_law.specs.Pv.Post.{Sleeps, Naps, Clears, Kicks}
-use Rattle.lk_law.specs.Snapshot.{Moves, spins}
-use Rattle.lk_law.specs.Agree.{SnapshotAgrees, Step, Stays, Owed, halts}
-use Rattle.lk_law.specs.World.{World}
-use Rattle.lk_law.specs.SpinWorld.{IsSoundSpinWorld}
-use Rattle.lk_law.specs.Registers.{RegistersFit}
-use Rattle.lk_law.specs.Places.{snapshot, phase_of, phase_if, post_of, post_on, post_if}
-use Rattle.lk_law.specs.Families.{is_slow}
-use Rattle.lk_law.specs.Premises.{IsNewest, roused}
-use Rattle.lk_law.specs.SpinLaws.{SpinWakeKeeps, SpinNudgeKeeps, SpinIntKeeps, RousedIsAwake}
-use Rattle.lk_law.specs.SpinLaws.{TopIsAwake}
-use Rattle.lk_law.proofs.common.Cases.{waiter_cases}
+use Rattle.std.proofs.Common.{arith, ap, refl, sym, ◌∙◌, subst, is_some, ◌==◌, if◌then◌else◌}
+use Rattle.lk_law.proofs.Names.{cases_Bool, eqb-true, NodeName, LockHistory, same_waiter, LockName}
+use Rattle.lk_law.proofs.Names.{Waiter, after_halt, stands_halting, node_of, Frame, Pc, E2, E12, W6}
+use Rattle.lk_law.proofs.Names.{W7, Owed, SnapshotAgrees, Stays, Step, halts, is_slow, Phase}
+use Rattle.lk_law.proofs.Names.{has_node, Leads, Waits, phase_if, phase_of, post_if, post_of}
+use Rattle.lk_law.proofs.Names.{post_on, snapshot, IsNewest, roused, Post, at_halt, Clears, Kicks}
+use Rattle.lk_law.proofs.Names.{Naps, Sleeps, RegistersFit, Moves, spins, IsSoundSpinWorld, World}
+use Rattle.lk_law.proofs.{common.Cases.waiter_cases, common.Choices.{fit_goes, unchosen}}
 use Rattle.lk_law.proofs.common.Puts.{if-true, if-false, put_moves, not-true}
 use Rattle.lk_law.proofs.common.Worlds.{world_step, world_stays, world_sound, post_on-here}
 use Rattle.lk_law.proofs.common.Worlds.{acts-post, post_on-kicks, sole_sleeper, sleeper_halts}
-use Rattle.lk_law.proofs.common.Choices.{fit_goes, unchosen}
-use Rattle.lk_law.proofs.pv.EndLaws.{law_W6_ends, law_E12_ends}
-use Rattle.lk_law.proofs.pv.Find.{law_wake, allow_wake}
+use Rattle.lk_law.proofs.{pv.EndLaws.{law_W6_ends, law_E12_ends}, pv.Find.{law_wake, allow_wake}}
+use Rattle.lk_law.specs.SpinLaws.{SpinWakeKeeps, SpinNudgeKeeps, SpinIntKeeps, RousedIsAwake}
+use Rattle.lk_law.specs.SpinLaws.{TopIsAwake}
 
 -- the rows at which a frame sleeps
 pub sleeping_row : (o : Option Pc) (f : Frame) → at_halt (post_if o f) ≡ true

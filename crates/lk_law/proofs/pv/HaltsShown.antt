@@ -1,53 +1,27 @@
 -- What the events say of halts and kicks is what a world shows between the operations and after
 -- each end of a halt; and so a front that sleeps while nobody holds its lock is owed a kick.
 use Rattle.std.proofs.Common.{◌≡◌, ◌≢◌, ◌⊎◌, inl, inr, ℕ, Option, Some, None, Bool, true, false}
-use Rattle.std.proofs.Common.{List, [], ◌∷◌, ◌++◌, arith, ap, ◌+◌, refl, sym, ◌∙◌, subst}
-use Rattle.std.specs.Prelude.{◌==◌, if◌then◌else◌}
-use Rattle.std.proofs.lemmas.Bool.{cases_Bool, eqb-true}
-use Rattle.lk_names.specs.Lawful.{FrontIsOwed, IsFront}
-use Rattle.lk_names.specs.declared.names.Format.{Format}
-use Rattle.lk_names.specs.declared.names.Kind.{Kind}
-use Rattle.lk_names.specs.Names.{same_lock}
-use Rattle.lk_names.specs.History.{LockHistory, history_of}
-use Rattle.lk_names.specs.Kicks.{sleeps_after, owes, kicks, kicked_after, sleeps}
-use Rattle.lk_names.specs.declared.names.Waiter.{Waiter}
-use Rattle.lk_names.specs.declared.names.LockName.{LockName}
-use Rattle.lk_names.specs.declared.events.Event.{Event}
-use Rattle.lk_names.specs.declared.events.What.TheVariants.{Wake, Int, Nudge}
-use Rattle.lk_names.specs.declared.names.Mode.{Mode}
-use Rattle.lk_word.specs.declared.spin_word.NodeName.{NodeName}
-use Rattle.lk_word.specs.declared.spin_word.Locked.TheVariants.{Free}
-use Rattle.lk_rows.specs.declared.parts.Frame.{Frame}
-use Rattle.lk_rows.specs.declared.parts.Pc.{Pc}
-use Rattle.lk_rows.specs.declared.parts.Pc.TheVariants.{U5}
-use Rattle.lk_rows.specs.declared.setup.Verb.{Verb}
-use Rattle.lk_rows.specs.Acts.{after_halt}
-use Rattle.lk_rows.specs.Moves.{node_of, started, first_place}
-use Rattle.lk_law.specs.Phase.{Phase, queues}
-use Rattle.lk_law.specs.Phase.Phase.{Idle}
-use Rattle.lk_law.specs.Pv.{at_halt}
-use Rattle.lk_law.specs.Pv.Post.{Off, Sleeps, Naps, Kicks}
-use Rattle.lk_law.specs.Snapshot.{Moves}
-use Rattle.lk_law.specs.Agree.{sole, halts}
-use Rattle.lk_law.specs.World.{World}
-use Rattle.lk_law.specs.SpinWorld.{IsSoundSpinWorld}
-use Rattle.lk_law.specs.Places.{snapshot, phase_of, phase_on, post_of, post_on, post_if}
-use Rattle.lk_law.specs.Steps.{put_frame, put_kicked}
-use Rattle.lk_law.specs.Premises.{IsNewest, HasNoPlace, roused}
-use Rattle.lk_law.specs.Kicked.{ShowsKicks, BeginShows, EndShows, WakeShows, NudgeShows, IntShows}
-use Rattle.lk_law.specs.Kicked.{IntAwakeShows, SpinFrontsAreOwed}
-use Rattle.lk_law.specs.Halting.{SleepingFrontIsKicked}
-use Rattle.lk_law.proofs.common.Families.{lists_main}
-use Rattle.lk_law.proofs.pv.Laws.{para_owed}
-use Rattle.lk_law.proofs.common.Puts.{if-true, if-false, put_moves}
-use Rattle.lk_law.proofs.common.Begins.{place_off}
-use Rattle.lk_law.proofs.common.RestWorld.{empty_world}
+use Rattle.std.proofs.Common.{List, [], ◌∷◌, ◌++◌, arith, ap, ◌+◌, refl, sym, ◌∙◌, subst, ◌==◌}
+use Rattle.std.proofs.Common.{if◌then◌else◌}
+use Rattle.lk_law.proofs.Names.{cases_Bool, eqb-true, Free, NodeName, LockHistory, sleeps, IsFront}
+use Rattle.lk_law.proofs.Names.{same_lock, Event, Int, Wake, Format, Kind, LockName, Mode, Waiter}
+use Rattle.lk_law.proofs.Names.{after_halt, first_place, node_of, started, Frame, Pc, U5, Verb}
+use Rattle.lk_law.proofs.Names.{halts, sole, ShowsKicks, Phase, queues, Idle, phase_of, phase_on}
+use Rattle.lk_law.proofs.Names.{post_if, post_of, post_on, snapshot, HasNoPlace, IsNewest, roused}
+use Rattle.lk_law.proofs.Names.{at_halt, Kicks, Naps, Off, Sleeps, Moves, IsSoundSpinWorld}
+use Rattle.lk_law.proofs.Names.{put_frame, World}
+use Rattle.lk_names.specs.{History.history_of, Kicks.{sleeps_after, owes, kicks, kicked_after}}
+use Rattle.lk_names.specs.{Lawful.FrontIsOwed, declared.events.What.TheVariants.Nudge}
+use Rattle.lk_law.proofs.{common.Begins.place_off, common.Families.lists_main}
+use Rattle.lk_law.proofs.{common.Puts.{if-true, if-false, put_moves}, common.RestWorld.empty_world}
 use Rattle.lk_law.proofs.common.Worlds.{post_on-kicks}
-use Rattle.lk_law.proofs.pv.HaltsEnd.{halted_sleeps, sleeping_row}
 use Rattle.lk_law.proofs.pv.Alike.{alike_self, frame_place, frame_same, kicked_on, made_on}
-use Rattle.lk_law.proofs.pv.Alike.{owing_on, sleeps_on}
-use Rattle.lk_law.proofs.pv.KicksShown.{flip}
-use Rattle.lk_law.proofs.pv.Alike.{quiet_shows, same_owing}
+use Rattle.lk_law.proofs.pv.Alike.{owing_on, sleeps_on, quiet_shows, same_owing}
+use Rattle.lk_law.proofs.{pv.HaltsEnd.{halted_sleeps, sleeping_row}, pv.KicksShown.flip}
+use Rattle.lk_law.proofs.pv.Laws.{para_owed}
+use Rattle.lk_law.specs.Halting.{SleepingFrontIsKicked}
+use Rattle.lk_law.specs.Kicked.{BeginShows, EndShows, WakeShows, NudgeShows, IntShows}
+use Rattle.lk_law.specs.{Kicked.{IntAwakeShows, SpinFrontsAreOwed}, Steps.put_kicked}
 
 -- between the operations
 

@@ -1,47 +1,26 @@
 -- The rows of a holder of the paravirtual lock that looks after the next keep every sound world: K1
 -- to K3.
 use Rattle.std.proofs.Common.{◌≡◌, ◌⊎◌, inl, inr, ℕ, Some, None, Bool, true, false, [], arith, ap}
-use Rattle.std.proofs.Common.{◌-◌, refl, sym, ◌∙◌, subst, slice_get}
-use Rattle.std.specs.Prelude.{if◌then◌else◌, ◌||◌}
-use Rattle.lk_names.specs.declared.names.Waiter.{Waiter}
-use Rattle.lk_names.specs.declared.names.LockName.{LockName}
-use Rattle.lk_names.specs.History.{LockHistory, told}
-use Rattle.lk_names.specs.declared.holder.Manner.TheVariants.{Spins}
-use Rattle.lk_word.specs.declared.spin_word.NodeName.{NodeName}
-use Rattle.lk_word.specs.declared.spin_word.Locked.{Locked}
-use Rattle.lk_word.specs.declared.spin_word.Locked.TheVariants.{Free, Held, Slow}
-use Rattle.lk_rows.specs.declared.parts.Flag.{Flag}
-use Rattle.lk_rows.specs.declared.parts.State.{State}
-use Rattle.lk_rows.specs.declared.parts.State.TheVariants.{Hashed}
-use Rattle.lk_rows.specs.declared.parts.Frame.{Frame}
-use Rattle.lk_rows.specs.declared.parts.Pc.TheVariants.{K1, K2, K3}
-use Rattle.lk_rows.specs.Moves.{node_of}
-use Rattle.lk_rows.specs.Row.{Effect, Nothing, Goes, writes, Leaves}
-use Rattle.lk_rows.specs.rows.Cna.{is_held}
-use Rattle.lk_rows.specs.rows.Pv.{with_byte, is_halted}
-use Rattle.lk_law.specs.Phase.{Phase, seeks, leads, queues}
-use Rattle.lk_law.specs.Phase.Phase.{Seeks, Prepared}
-use Rattle.lk_law.specs.Pv.{Post, agrees, fronts, names}
-use Rattle.lk_law.specs.Snapshot.{Snapshot, Rewrites}
-use Rattle.lk_law.specs.Agree.{SnapshotAgrees, Owed}
-use Rattle.lk_law.specs.Places.{snapshot}
-use Rattle.lk_law.specs.Steps.{put_word, put_node, put_entry, put_queued, led, lead_on}
-use Rattle.lk_law.specs.Steps.{stores_state}
-use Rattle.lk_law.specs.SpinLaws.{SpinRowKeeps}
-use Rattle.lk_law.proofs.common.Puts.{if_cases, put_word-here, put_rewrites}
-use Rattle.lk_law.proofs.common.Users.{some_is}
-use Rattle.lk_law.proofs.common.Turns.{Turn, turned, same_turn, word_turn}
-use Rattle.lk_law.proofs.common.TurnSteps.{node_plain}
-use Rattle.lk_law.proofs.common.Choices.{fit_quiet}
+use Rattle.std.proofs.Common.{◌-◌, refl, sym, ◌∙◌, subst, slice_get, if◌then◌else◌, ◌||◌}
+use Rattle.lk_law.proofs.Names.{Locked, Free, Held, Slow, NodeName, LockHistory, told, Spins}
+use Rattle.lk_law.proofs.Names.{LockName, Waiter, node_of, Effect, Goes, Leaves, Nothing, writes}
+use Rattle.lk_law.proofs.Names.{Flag, Frame, K1, K2, K3, State, Hashed, is_held, is_halted}
+use Rattle.lk_law.proofs.Names.{with_byte, Owed, SnapshotAgrees, Phase, leads, queues, seeks}
+use Rattle.lk_law.proofs.Names.{Prepared, Seeks, snapshot, Post, agrees, fronts, names, Rewrites}
+use Rattle.lk_law.proofs.Names.{Snapshot, SpinRowKeeps, lead_on, led, put_entry, put_node}
+use Rattle.lk_law.proofs.Names.{put_queued, put_word, stores_state}
 use Rattle.lk_law.proofs.common.Acting.{Acting, StandsIn, Kept, row_keeps_halting, fit_here}
 use Rattle.lk_law.proofs.common.Acting.{phase_here, held_not, left_place, quiet_phase, quiet_off}
-use Rattle.lk_law.proofs.pv.Laws.{para, para_queue}
+use Rattle.lk_law.proofs.common.Choices.{fit_quiet}
+use Rattle.lk_law.proofs.common.Puts.{if_cases, put_word-here, put_rewrites}
+use Rattle.lk_law.proofs.common.TurnSteps.{node_plain}
+use Rattle.lk_law.proofs.{common.Turns.{Turn, turned, same_turn, word_turn}, common.Users.some_is}
 use Rattle.lk_law.proofs.pv.Acting.{fit_halting, halting_plain, post_here, hm_posts, hm_owed}
 use Rattle.lk_law.proofs.pv.Acting.{hm_step, hm_step_as, hm_stays, hm_kept, off_turn, off_leaves}
 use Rattle.lk_law.proofs.pv.Acting.{flags_here, state_turn, entry_turn}
 use Rattle.lk_law.proofs.pv.EndLaws.{law_K1_hash, law_K1_done, law_K2, law_K3}
+use Rattle.lk_law.proofs.{pv.Laws.{para, para_queue}, pv.Turn.follows_post}
 use Rattle.lk_law.proofs.pv.WaitRowsKeep.{halted_is, halted_not}
-use Rattle.lk_law.proofs.pv.Turn.{follows_post}
 use Rattle.lk_names.specs.declared.events.What.TheVariants as what
 
 either : (a b : Bool) → (a || b) ≡ true → (a ≡ true) ⊎ (b ≡ true)

@@ -1,21 +1,11 @@
 -- An interrupt as a whole: a halt ends, if there is one, and a frame comes.
 use Rattle.std.proofs.Common.{◌≡◌, ◌≢◌, Some, None, [], ◌∷◌, ◌++◌, arith, ap, ◌+◌, ◌∙◌}
-use Rattle.lk_names.specs.declared.names.Waiter.{Waiter}
-use Rattle.lk_names.specs.declared.events.Event.{Event}
-use Rattle.lk_names.specs.declared.events.What.TheVariants.{Int}
-use Rattle.lk_rows.specs.declared.parts.Frame.{Frame}
-use Rattle.lk_rows.specs.Acts.{after_halt}
-use Rattle.lk_rows.specs.Acts.{stands_halting}
-use Rattle.lk_law.specs.World.{World}
-use Rattle.lk_law.specs.SpinWorld.{IsSoundSpinWorld}
-use Rattle.lk_law.specs.Steps.{told_on, put_frame}
-use Rattle.lk_law.specs.Premises.{IsNewest, roused, above}
-use Rattle.lk_law.specs.SpinLaws.{SpinInterruptKeeps}
-use Rattle.lk_law.specs.Kicked.{ShowsKicks, InterruptShows}
-use Rattle.lk_law.proofs.common.Puts.{if_cases, put_moves, not-true}
-use Rattle.lk_law.proofs.common.Begins.{spin_end_keeps}
+use Rattle.lk_law.proofs.Names.{Event, Int, Waiter, after_halt, stands_halting, Frame, ShowsKicks}
+use Rattle.lk_law.proofs.Names.{IsNewest, roused, IsSoundSpinWorld, put_frame, told_on, World}
+use Rattle.lk_law.proofs.{common.Begins.spin_end_keeps, common.Puts.{if_cases, put_moves, not-true}}
 use Rattle.lk_law.proofs.pv.HaltsEnd.{spin_int_keeps, roused_is_awake, top_is_awake}
 use Rattle.lk_law.proofs.pv.HaltsShown.{int_shows, int_awake_shows, end_shows}
+use Rattle.lk_law.specs.{Kicked.InterruptShows, Premises.above, SpinLaws.SpinInterruptKeeps}
 
 higher : (w : Waiter) → above w ≢ w
 higher w e = let z = ap (λ (v : Waiter). v.ctx) e in omega (arith, z)

@@ -1,19 +1,13 @@
 -- The posts of a lock where nothing changes that they speak of; and what a post says of the phase.
 use Rattle.std.proofs.Common.{◌≡◌, Option, Some, Bool, true, false, ◌⊎◌, inl, inr, arith, ap, refl}
 use Rattle.std.proofs.Common.{sym, ◌∙◌}
-use Rattle.std.proofs.lemmas.Bool.{cases_Bool}
-use Rattle.lk_names.specs.declared.names.Waiter.{Waiter}
-use Rattle.lk_word.specs.declared.spin_word.NodeName.{NodeName}
-use Rattle.lk_word.specs.declared.spin_word.Locked.{Locked}
-use Rattle.lk_rows.specs.declared.parts.State.{State}
-use Rattle.lk_rows.specs.declared.parts.Flag.{Flag}
-use Rattle.lk_law.specs.Phase.{Phase, has_node, has_lock, leads}
-use Rattle.lk_law.specs.Phase.Phase.{Links, Waits, Leads, Presses, Holds, Hands, Releases}
-use Rattle.lk_law.specs.Pv.{Post, PostsAgree, agrees, at_halt, post_full, raw, fits, post_holds}
-use Rattle.lk_law.specs.Pv.{fronts}
-use Rattle.lk_law.specs.Pv.Post.{Off, Joins, Spins, Peers, Stops, Stopped, Dozes, Sleeps, Stirs}
-use Rattle.lk_law.specs.Pv.Post.{Rises, Clears, Tries, Signs, Slows, Wins, Erases, Marks, Checks}
-use Rattle.lk_law.specs.Pv.Post.{Naps, Has, Calls, Slowing, Signing, Finds, Drops, Kicks}
+use Rattle.lk_law.proofs.Names.{cases_Bool, Locked, NodeName, Waiter, Flag, State, Phase, has_lock}
+use Rattle.lk_law.proofs.Names.{has_node, leads, Hands, Holds, Leads, Links, Presses, Releases}
+use Rattle.lk_law.proofs.Names.{Waits, Post, PostsAgree, agrees, at_halt, fits, fronts, post_full}
+use Rattle.lk_law.proofs.Names.{post_holds, raw, Calls, Checks, Clears, Dozes, Drops, Erases, Finds}
+use Rattle.lk_law.proofs.Names.{Has, Joins, Kicks, Marks, Naps, Off, Peers, Rises, Signing, Signs}
+use Rattle.lk_law.proofs.Names.{Sleeps, Slowing, Slows, Stirs, Stopped, Stops, Tries, Wins}
+use Rattle.lk_law.specs.Pv.Post.{Spins}
 
 -- the post speaks of the own node
 abbrev pub noded_post : Post → Bool

@@ -2,40 +2,23 @@
 -- of a halt; and so a front that sleeps while nobody holds its lock is owed a kick.
 -- one more event
 use Rattle.std.proofs.Common.{◌≡◌, ◌≢◌, ◌⊎◌, inl, inr, ℕ, Option, Some, None, Bool, true, false}
-use Rattle.std.proofs.Common.{List, [], ◌∷◌, ◌++◌, arith, ap, ◌+◌, ◌-◌, refl, sym, ◌∙◌, subst}
-use Rattle.std.specs.Prelude.{◌==◌, if◌then◌else◌}
-use Rattle.std.proofs.lemmas.Bool.{cases_Bool, eqb-true}
-use Rattle.lk_names.specs.Names.{same_waiter}
-use Rattle.lk_names.specs.History.{LockHistory}
-use Rattle.lk_names.specs.Kicks.{is_kicked, sleeps}
-use Rattle.lk_names.specs.declared.names.Waiter.{Waiter}
-use Rattle.lk_names.specs.declared.names.LockName.{LockName}
-use Rattle.lk_names.specs.declared.events.Event.{Event}
-use Rattle.lk_names.specs.declared.events.What.TheVariants.{Release, Kick, Halt}
-use Rattle.lk_rows.specs.declared.parts.Frame.{Frame}
-use Rattle.lk_rows.specs.declared.parts.Pc.{Pc}
-use Rattle.lk_rows.specs.declared.parts.Pc.TheVariants.{W6, E12, U4, U5}
-use Rattle.lk_rows.specs.Moves.{node_of}
-use Rattle.lk_rows.specs.Row.{Lead, Goes, Enters, Granted, Freed, Missed, Leaves, Yields, Done}
-use Rattle.lk_rows.specs.Row.{TakesWait}
-use Rattle.lk_rows.specs.TopRow.{target}
-use Rattle.lk_law.specs.Pv.{at_halt}
-use Rattle.lk_law.specs.Snapshot.{Moves}
-use Rattle.lk_law.specs.World.{World}
-use Rattle.lk_law.specs.SpinWorld.{IsSoundSpinWorld}
-use Rattle.lk_law.specs.Places.{post_of, post_if}
-use Rattle.lk_law.specs.Steps.{led, row_in, told_event}
-use Rattle.lk_law.specs.Premises.{IsNewest, IsThen}
-use Rattle.lk_law.specs.Kicked.{with_event, Rests, Owes, AreOwing, ShowsKicks, RowShows}
+use Rattle.std.proofs.Common.{List, [], ◌∷◌, ◌++◌, arith, ap, ◌+◌, ◌-◌, refl, sym, ◌∙◌, subst, ◌==◌}
+use Rattle.std.proofs.Common.{if◌then◌else◌}
+use Rattle.lk_law.proofs.Names.{cases_Bool, eqb-true, LockHistory, sleeps, same_waiter, Event, Halt}
+use Rattle.lk_law.proofs.Names.{Release, LockName, Waiter, node_of, Done, Enters, Freed, Goes}
+use Rattle.lk_law.proofs.Names.{Granted, Lead, Leaves, Missed, TakesWait, Yields, target, Frame, Pc}
+use Rattle.lk_law.proofs.Names.{E12, U4, U5, W6, ShowsKicks, post_if, post_of, IsNewest, IsThen}
+use Rattle.lk_law.proofs.Names.{at_halt, Moves, IsSoundSpinWorld, led, row_in, told_event, World}
+use Rattle.lk_names.specs.{Kicks.is_kicked, declared.events.What.TheVariants.Kick}
 use Rattle.lk_law.proofs.common.Cases.{waiter_cases}
 use Rattle.lk_law.proofs.common.Puts.{if-true, if-false, put_moves, not-true, same_waiter-else}
-use Rattle.lk_law.proofs.common.Puts.{kept_true}
-use Rattle.lk_law.proofs.common.Sames.{same_waiter-self}
-use Rattle.lk_law.proofs.pv.HaltsEnd.{halted_sleeps, sleeper_is, sleeping_row}
-use Rattle.lk_law.proofs.pv.Quiet.{to_kick, reaches_kick, put, QuietRow, quiet_at, target_kind}
+use Rattle.lk_law.proofs.{common.Puts.kept_true, common.Sames.same_waiter-self}
 use Rattle.lk_law.proofs.pv.Alike.{alike_told, frame_place, frame_same, kicked_on, made_on}
 use Rattle.lk_law.proofs.pv.Alike.{owing_on, sleeps_on, quiet_shows, same_owing, more_owing}
 use Rattle.lk_law.proofs.pv.Alike.{less_owing}
+use Rattle.lk_law.proofs.pv.HaltsEnd.{halted_sleeps, sleeper_is, sleeping_row}
+use Rattle.lk_law.proofs.pv.Quiet.{to_kick, reaches_kick, put, QuietRow, quiet_at, target_kind}
+use Rattle.lk_law.specs.Kicked.{with_event, Rests, Owes, AreOwing, RowShows}
 
 -- where a quiet lead goes no kick is owed
 granted_apart : (b : Bool) (c : Option Pc) → (b ≡ true → IsThen c)

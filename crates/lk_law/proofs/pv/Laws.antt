@@ -1,50 +1,30 @@
 -- The laws of the paravirtual lock.
 use Rattle.std.proofs.Common.{◌≡◌, ◌≢◌, ℕ, suc, Option, Some, None, Bool, true, false, [], ◌++◌}
-use Rattle.std.proofs.Common.{◌⊎◌, inl, inr, arith, ap, refl, sym, ◌∙◌, subst, slice_get, drop}
-use Rattle.std.specs.Prelude.{map, if◌then◌else◌}
-use Rattle.lk_names.specs.History.{LockHistory, told, with_holder, without_holder}
-use Rattle.lk_names.specs.declared.holder.Manner.TheVariants.{Spins}
-use Rattle.lk_names.specs.declared.names.Mode.{Mode}
-use Rattle.lk_names.specs.declared.names.Mode.TheVariants.{Virt, Native, Cna, Pv}
-use Rattle.lk_names.specs.declared.names.Waiter.{Waiter}
-use Rattle.lk_names.specs.declared.names.LockName.{LockName}
-use Rattle.lk_names.specs.declared.events.Event.{Event}
-use Rattle.lk_names.specs.declared.events.How.TheVariants.{Head}
-use Rattle.lk_names.specs.declared.events.What.TheVariants.{Take, Release, Pass, Leave}
-use Rattle.lk_names.specs.Names.{same_waiter}
-use Rattle.lk_word.specs.declared.spin_word.NodeName.{NodeName}
-use Rattle.lk_word.specs.declared.spin_word.Fields.{Fields}
-use Rattle.lk_word.specs.declared.spin_word.Locked.TheVariants.{Free, Held, Slow}
-use Rattle.lk_rows.specs.declared.parts.Node.{Node}
-use Rattle.lk_rows.specs.Machine.{rest_node}
-use Rattle.lk_rows.specs.declared.parts.Flag.TheVariants.{Go}
-use Rattle.lk_law.specs.Phase.{Phase, has_lock, has_node, seeks, pends, claims, watches, stakes}
-use Rattle.lk_law.specs.Phase.{queues, leads}
-use Rattle.lk_law.specs.Phase.Phase.{Idle, Seeks, Releases, Prepared, Waits, Leads, Presses, Holds}
-use Rattle.lk_law.specs.Phase.Phase.{Hands, Tends}
-use Rattle.lk_law.specs.Pv.{Post, PostsAgree, agrees, post_holds, fronts}
-use Rattle.lk_law.specs.Pv.Post.{Sleeps, Naps}
-use Rattle.lk_law.specs.Snapshot.{Snapshot, Rewrites, HolderAgrees, PendingAgrees, QueueAgrees}
-use Rattle.lk_law.specs.Snapshot.{spins}
-use Rattle.lk_law.specs.Cna.{moves_aside}
-use Rattle.lk_law.specs.Agree.{LockAgrees, ParaAgrees, SnapshotAgrees, Step, Stays, LeavesSlowPath}
-use Rattle.lk_law.specs.Agree.{Owed, halts, node_state, sole}
-use Rattle.lk_law.proofs.common.Cases.{waiter_cases}
-use Rattle.lk_law.proofs.spin.Hold.{hold_keep, hold_take, hold_take_as, hold_turn, hold_drop_as}
-use Rattle.lk_law.proofs.spin.Pend.{pend_keep, pend_still, pend_set, pend_clear}
-use Rattle.lk_law.proofs.common.Told.{told_lock, told_others, sole_taken, sole_freed}
-use Rattle.lk_law.proofs.queue.Keep.{queue_keep}
-use Rattle.lk_law.proofs.queue.Lead.{queue_lead, lead_first, second_is}
-use Rattle.lk_law.proofs.queue.Pass.{queue_pass}
-use Rattle.lk_law.proofs.queue.Sole.{queue_sole}
-use Rattle.lk_law.proofs.common.Puts.{put_moves}
+use Rattle.std.proofs.Common.{◌⊎◌, inl, inr, arith, ap, refl, sym, ◌∙◌, subst, slice_get, drop, map}
+use Rattle.std.proofs.Common.{if◌then◌else◌}
+use Rattle.lk_law.proofs.Names.{Fields, Free, Held, Slow, NodeName, LockHistory, told, with_holder}
+use Rattle.lk_law.proofs.Names.{without_holder, same_waiter, Event, Head, Leave, Pass, Release}
+use Rattle.lk_law.proofs.Names.{Take, Spins, LockName, Mode, Cna, Native, Pv, Virt, Waiter}
+use Rattle.lk_law.proofs.Names.{rest_node, Go, Node, LeavesSlowPath, LockAgrees, Owed, ParaAgrees}
+use Rattle.lk_law.proofs.Names.{SnapshotAgrees, Stays, Step, halts, node_state, sole, moves_aside}
+use Rattle.lk_law.proofs.Names.{Phase, claims, has_lock, has_node, leads, pends, queues, seeks}
+use Rattle.lk_law.proofs.Names.{stakes, watches, Hands, Holds, Idle, Leads, Prepared, Presses}
+use Rattle.lk_law.proofs.Names.{Releases, Seeks, Waits, Post, PostsAgree, agrees, fronts}
+use Rattle.lk_law.proofs.Names.{post_holds, Naps, Sleeps, HolderAgrees, PendingAgrees, QueueAgrees}
+use Rattle.lk_law.proofs.Names.{Rewrites, Snapshot, spins}
+use Rattle.lk_law.proofs.{cna.Look.queue_same, common.Cases.waiter_cases}
 use Rattle.lk_law.proofs.common.Frame.{LeavesOthers, nodes_stay, nodes_leave, agrees_after}
-use Rattle.lk_law.proofs.spin.Laws.{SameNodes}
+use Rattle.lk_law.proofs.common.Puts.{put_moves}
+use Rattle.lk_law.proofs.common.Told.{told_lock, told_others, sole_taken, sole_freed}
+use Rattle.lk_law.proofs.{pv.Calls.kicked, pv.Keep.{agrees-holds, agrees-fronts}, pv.Met.Met}
+use Rattle.lk_law.proofs.queue.Keep.{queue_keep}
 use Rattle.lk_law.proofs.queue.Laws.{own_is, node_is, flat_lists, apart_on, rewrite_here}
-use Rattle.lk_law.proofs.cna.Look.{queue_same}
-use Rattle.lk_law.proofs.pv.Keep.{agrees-holds, agrees-fronts}
-use Rattle.lk_law.proofs.pv.Calls.{kicked}
-use Rattle.lk_law.proofs.pv.Met.{Met}
+use Rattle.lk_law.proofs.{queue.Lead.{queue_lead, lead_first, second_is}, queue.Pass.queue_pass}
+use Rattle.lk_law.proofs.queue.Sole.{queue_sole}
+use Rattle.lk_law.proofs.spin.Hold.{hold_keep, hold_take, hold_take_as, hold_turn, hold_drop_as}
+use Rattle.lk_law.proofs.spin.Laws.{SameNodes}
+use Rattle.lk_law.proofs.spin.Pend.{pend_keep, pend_still, pend_set, pend_clear}
+use Rattle.lk_law.specs.Phase.Phase.{Tends}
 
 -- a family that halts processors moves nobody aside
 pub halts_flat : (mode : Mode) → halts mode ≡ true → moves_aside mode ≡ false

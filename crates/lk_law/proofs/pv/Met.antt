@@ -1,11 +1,7 @@
 -- The posts of a lock, with what a row of the paravirtual lock may rest on.
 use Rattle.std.proofs.Common.{◌≡◌, ◌≢◌, Option, Some, true}
-use Rattle.lk_names.specs.declared.names.Waiter.{Waiter}
-use Rattle.lk_word.specs.declared.spin_word.NodeName.{NodeName}
-use Rattle.lk_word.specs.declared.spin_word.Locked.{Locked}
-use Rattle.lk_word.specs.declared.spin_word.Locked.TheVariants.{Free}
-use Rattle.lk_rows.specs.declared.parts.State.{State}
-use Rattle.lk_law.specs.Pv.{Post, PostsAgree, post_holds, fronts}
+use Rattle.lk_law.proofs.Names.{Locked, Free, NodeName, Waiter, State, Post, PostsAgree, fronts}
+use Rattle.lk_law.proofs.Names.{post_holds}
 
 -- The posts of a lock as a row meets them: they agree, one holder stands among them at most, a
 -- front leads the queue, and the lock of a holder is not free.

@@ -2,30 +2,18 @@
 -- the arrival and the link.
 use Rattle.std.proofs.Common.{◌≡◌, ◌≢◌, ℕ, Some, Bool, true, false, List, [], ◌∷◌, ◌++◌, ◌⊎◌, inl}
 use Rattle.std.proofs.Common.{inr, arith, ap, refl, sym, ◌∙◌, subst, slice_get}
-use Rattle.lk_names.specs.History.{LockHistory}
-use Rattle.lk_names.specs.declared.names.Waiter.{Waiter}
-use Rattle.lk_names.specs.declared.names.LockName.{LockName}
-use Rattle.lk_word.specs.declared.spin_word.NodeName.{NodeName}
-use Rattle.lk_word.specs.declared.spin_word.Fields.{Fields}
-use Rattle.lk_word.specs.declared.spin_word.Locked.TheVariants.{Free, Held}
-use Rattle.lk_rows.specs.declared.parts.State.{State}
-use Rattle.lk_rows.specs.declared.parts.State.TheVariants.{Running}
-use Rattle.lk_rows.specs.declared.parts.Node.{Node}
-use Rattle.lk_law.specs.Phase.{Phase, has_node, queues}
-use Rattle.lk_law.specs.Phase.Phase.{Prepared, Links, Waits, Leads}
-use Rattle.lk_law.specs.Pv.{Post, PostsAgree, agrees, post_holds, fits}
-use Rattle.lk_law.specs.Pv.Post.{Off, Joins, Spins, Rises, Kicks}
-use Rattle.lk_law.specs.Snapshot.{Snapshot, Moves, Rewrites}
-use Rattle.lk_law.specs.Agree.{ParaAgrees, SnapshotAgrees, Step, Stays, Owed, halts, node_state}
+use Rattle.lk_law.proofs.Names.{Fields, Free, Held, NodeName, get-append_old, LockHistory, LockName}
+use Rattle.lk_law.proofs.Names.{Waiter, Node, State, Running, Owed, ParaAgrees, SnapshotAgrees}
+use Rattle.lk_law.proofs.Names.{Stays, Step, halts, node_state, Phase, has_node, queues, Leads}
+use Rattle.lk_law.proofs.Names.{Links, Prepared, Waits, Post, PostsAgree, agrees, fits, post_holds}
+use Rattle.lk_law.proofs.Names.{Joins, Kicks, Off, Rises, Moves, Rewrites, Snapshot}
 use Rattle.lk_law.proofs.common.Cases.{waiter_cases, lock_cases, node_cases}
-use Rattle.lk_names.proofs.ByIndex.{get-append_old}
-use Rattle.lk_law.proofs.common.Families.{lists_main, lists_rest}
-use Rattle.lk_law.proofs.pv.Keep.{pv_keep, noded_post, agrees-noded}
-use Rattle.lk_law.proofs.pv.Calls.{pv_byte}
+use Rattle.lk_law.proofs.{common.Families.{lists_main, lists_rest}, pv.Calls.pv_byte}
 use Rattle.lk_law.proofs.pv.Ends.{g4_behind, g4_first, g5_link}
-use Rattle.lk_law.proofs.queue.Laws.{own_is}
+use Rattle.lk_law.proofs.pv.Keep.{pv_keep, noded_post, agrees-noded}
+use Rattle.lk_law.proofs.{pv.Laws.{para, para_queue, para_taken, posts_met}, queue.Laws.own_is}
 use Rattle.lk_law.proofs.spin.Laws.{SameNodes}
-use Rattle.lk_law.proofs.pv.Laws.{para, para_queue, para_taken, posts_met}
+use Rattle.lk_law.specs.Pv.Post.{Spins}
 
 -- what a row changes of the posts: its waiter's goes from p to q, and neither the lock's entry nor
 -- a kick changes

@@ -1,36 +1,22 @@
 -- The rows that tell of no halt, no kick and no release that owes one, and lead to no kick.
 use Rattle.std.proofs.Common.{◌≡◌, ◌≢◌, ℕ, Option, Some, None, Bool, true, false, arith, ap, refl}
-use Rattle.std.proofs.Common.{◌∙◌}
-use Rattle.std.specs.Prelude.{if◌then◌else◌}
-use Rattle.lk_names.specs.declared.names.Mode.{Mode}
-use Rattle.lk_names.specs.declared.events.What.{What}
-use Rattle.lk_names.specs.declared.events.What.TheVariants.{Release, Kick, Halt, Wake, Int, Nudge}
-use Rattle.lk_word.specs.declared.spin_word.NodeName.{NodeName}
-use Rattle.lk_word.specs.declared.spin_word.Fields.{Fields}
-use Rattle.lk_rows.specs.declared.parts.Flag.{Flag}
-use Rattle.lk_rows.specs.declared.parts.State.{State}
-use Rattle.lk_rows.specs.declared.parts.Frame.{Frame}
-use Rattle.lk_rows.specs.declared.parts.Pc.{Pc}
-use Rattle.lk_rows.specs.declared.parts.Pc.TheVariants.{U4, U5, W6, E12}
-use Rattle.lk_names.specs.Names.{same_waiter}
-use Rattle.lk_names.specs.declared.names.Waiter.{Waiter}
-use Rattle.lk_names.specs.declared.names.LockName.{LockName}
+use Rattle.std.proofs.Common.{◌∙◌, if◌then◌else◌}
+use Rattle.lk_law.proofs.Names.{RwFields, Fields, NodeName, same_waiter, What, Halt, Int, Release}
+use Rattle.lk_law.proofs.Names.{Wake, LockName, Mode, Waiter, Done, Effect, Enters, Freed, Goes}
+use Rattle.lk_law.proofs.Names.{Granted, Lead, Leaves, Missed, Nothing, Passes, Says, TakesWait}
+use Rattle.lk_law.proofs.Names.{Tell, Yields, target, Flag, Frame, Pc, E12, U4, U5, W6, State}
+use Rattle.lk_law.proofs.Names.{Sight, entry_row, Made, lead_on, led, sight_in, stores_entry}
+use Rattle.lk_law.proofs.Names.{stores_flag, stores_next, stores_queued, stores_runs, stores_second}
+use Rattle.lk_law.proofs.Names.{stores_state, stores_word, World}
+use Rattle.lk_names.specs.declared.events.What.TheVariants.{Kick, Nudge}
 use Rattle.lk_rows.specs.TopRow.{Target, SpinWord, QueueWord, Queued, FlagOf, NextOf, ChoiceWord}
 use Rattle.lk_rows.specs.TopRow.{ChoiceFlag, ChoiceNext, SecondTailOf, RunsOf, PvWord, PvFlag}
-use Rattle.lk_rows.specs.TopRow.{PvNext, StateOf, HashEntry, Halted, KickOf, RwWord, target}
-use Rattle.lk_law.specs.World.{World}
-use Rattle.lk_law.specs.Steps.{Made, row_in_at, sight_in, lead_on, led, stores_word}
-use Rattle.lk_law.specs.Steps.{stores_flag, stores_next, stores_second, stores_runs, stores_state}
-use Rattle.lk_law.specs.Steps.{stores_entry, stores_queued, stores_rw, rw_led}
-use Rattle.lk_rows.specs.Row.{Effect, Lead, Tell, Goes, Enters, Granted, Freed, Missed, Leaves}
-use Rattle.lk_rows.specs.Row.{Yields, Done, TakesWait, Nothing, Says, Passes}
-use Rattle.lk_rows.specs.rows.Spin.{spin_row}
-use Rattle.lk_rows.specs.rows.Queue.{queue_row, entry_row, flag_row, next_row}
-use Rattle.lk_rows.specs.rows.Cna.{Sight, search_row, second_row, runs_row, handover_row}
-use Rattle.lk_rows.specs.rows.Cna.{promotion_row}
-use Rattle.lk_word.specs.declared.rw_word.RwFields.{RwFields}
-use Rattle.lk_rows.specs.rows.Rw.{rw_row}
+use Rattle.lk_rows.specs.TopRow.{PvNext, StateOf, HashEntry, Halted, KickOf, RwWord}
+use Rattle.lk_rows.specs.rows.Cna.{search_row, second_row, runs_row, handover_row, promotion_row}
 use Rattle.lk_rows.specs.rows.Pv.{pv_row, pv_flag_row, pv_next_row, state_row, hash_row}
+use Rattle.lk_rows.specs.{rows.Queue.{queue_row, flag_row, next_row}, rows.Rw.rw_row}
+use Rattle.lk_rows.specs.rows.Spin.{spin_row}
+use Rattle.lk_law.specs.Steps.{row_in_at, stores_rw, rw_led}
 
 abbrev pub to_kick : Pc → Bool
 to_kick U5 = true

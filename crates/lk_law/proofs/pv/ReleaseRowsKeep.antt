@@ -1,42 +1,25 @@
 -- The rows of the release of the paravirtual lock, with its kick, keep every sound world: U2 to U5.
-use Rattle.std.proofs.Common.{◌≡◌, inl, inr, ℕ, Some, None, true, false, [], ◌∷◌, arith, ap}
-use Rattle.std.proofs.Common.{refl, sym, ◌∙◌}
-use Rattle.std.specs.Prelude.{if◌then◌else◌, ◌==◌}
-use Rattle.lk_names.specs.declared.names.Waiter.{Waiter}
-use Rattle.lk_word.specs.declared.spin_word.NodeName.{NodeName}
-use Rattle.lk_word.specs.declared.spin_word.Locked.TheVariants.{Free}
-use Rattle.lk_rows.specs.declared.parts.Frame.{Frame}
-use Rattle.lk_rows.specs.declared.parts.Pc.TheVariants.{U2, U3, U4, U5}
-use Rattle.lk_rows.specs.Moves.{node_of}
-use Rattle.lk_rows.specs.Row.{Nothing, Says, Goes, Freed, Yields, TargetIs, looks}
-use Rattle.lk_rows.specs.rows.Cna.{is_held}
-use Rattle.lk_rows.specs.rows.Pv.{with_byte}
-use Rattle.lk_law.specs.Phase.{has_node, seeks}
-use Rattle.lk_law.specs.Pv.Post.{Kicks}
-use Rattle.lk_law.specs.Snapshot.{Moves}
-use Rattle.lk_law.specs.Agree.{Owed}
-use Rattle.lk_law.specs.World.{World}
-use Rattle.lk_law.specs.Places.{snapshot, post_on}
-use Rattle.lk_law.specs.Steps.{put_word, put_entry, put_kicked, led, lead_on}
-use Rattle.lk_law.specs.SpinLaws.{SpinRowKeeps}
-use Rattle.lk_law.proofs.common.Puts.{if_cases, put_word-here, if-true}
-use Rattle.lk_law.proofs.common.Users.{some_is}
-use Rattle.lk_law.proofs.common.Turns.{Turn, turned, same_turn, word_turn}
-use Rattle.lk_law.proofs.common.Choices.{fit_placeless}
-use Rattle.lk_law.proofs.common.TurnSteps.{turn_moves}
+use Rattle.std.proofs.Common.{◌≡◌, inl, inr, ℕ, Some, None, true, false, [], ◌∷◌, arith, ap, refl}
+use Rattle.std.proofs.Common.{sym, ◌∙◌, if◌then◌else◌, ◌==◌}
+use Rattle.lk_law.proofs.Names.{Free, NodeName, Waiter, node_of, Freed, Goes, Nothing, Says, Yields}
+use Rattle.lk_law.proofs.Names.{looks, Frame, U2, U3, U4, U5, is_held, with_byte, Owed, has_node}
+use Rattle.lk_law.proofs.Names.{seeks, post_on, snapshot, Kicks, Moves, SpinRowKeeps, lead_on, led}
+use Rattle.lk_law.proofs.Names.{put_entry, put_word, World}
+use Rattle.lk_rows.specs.Row.{TargetIs}
 use Rattle.lk_law.proofs.common.Acting.{Acting, StandsIn, Kept, row_keeps_halting, fit_here}
 use Rattle.lk_law.proofs.common.Acting.{phase_here, phase_shown, held_not, held_so, placeless_phase}
-use Rattle.lk_law.proofs.spin.RowsKeep.{WordKept}
+use Rattle.lk_law.proofs.{common.Cases.waiter_cases, common.Choices.fit_placeless}
+use Rattle.lk_law.proofs.common.Puts.{if_cases, put_word-here, if-true, kept_true}
+use Rattle.lk_law.proofs.common.TurnSteps.{turn_moves}
+use Rattle.lk_law.proofs.{common.Turns.{Turn, turned, same_turn, word_turn}, common.Users.some_is}
+use Rattle.lk_law.proofs.common.Worlds.{post_on-kicks}
 use Rattle.lk_law.proofs.pv.Acting.{fit_halting, halting_plain, post_here, hm_posts, hm_owed}
 use Rattle.lk_law.proofs.pv.Acting.{hm_step, hm_step_as, hm_stays, hm_kept, flags_here, entry_turn}
-use Rattle.lk_law.proofs.pv.Acting.{post_mine}
+use Rattle.lk_law.proofs.{pv.Acting.post_mine, pv.Allowed.allow_drop}
 use Rattle.lk_law.proofs.pv.EndLaws.{law_U2, law_U3, law_U4, law_U5}
 use Rattle.lk_law.proofs.pv.Find.{law_U2_find, finds_some, not_held_slow}
-use Rattle.lk_law.proofs.pv.Allowed.{allow_drop}
-use Rattle.lk_law.proofs.common.Cases.{waiter_cases}
-use Rattle.lk_law.proofs.common.Worlds.{post_on-kicks}
-use Rattle.lk_law.proofs.pv.HolderRowsKeep.{held_is, law_kicks}
-use Rattle.lk_law.proofs.common.Puts.{kept_true}
+use Rattle.lk_law.proofs.{pv.HolderRowsKeep.{held_is, law_kicks}, spin.RowsKeep.WordKept}
+use Rattle.lk_law.specs.Steps.{put_kicked}
 use Rattle.lk_names.specs.declared.events.What.TheVariants as what
 
 -- U2

@@ -1,19 +1,11 @@
 use Rattle.std.proofs.Common.{◌≡◌, ◌≢◌, Option, Some, None, Bool, true, false, ◌⊎◌, inl, inr, arith}
-use Rattle.std.proofs.Common.{ap, refl, sym, ◌∙◌}
-use Rattle.std.specs.Prelude.{not}
-use Rattle.lk_names.specs.declared.names.Waiter.{Waiter}
-use Rattle.lk_word.specs.declared.spin_word.NodeName.{NodeName}
-use Rattle.lk_word.specs.declared.spin_word.Locked.{Locked}
-use Rattle.lk_word.specs.declared.spin_word.Locked.TheVariants.{Slow}
-use Rattle.lk_rows.specs.declared.parts.State.{State}
-use Rattle.lk_rows.specs.declared.parts.State.TheVariants.{Running, Halted, Hashed}
-use Rattle.lk_law.specs.Snapshot.{Moves}
-use Rattle.lk_law.specs.Pv.{Post, PostsAgree, fronts, raw, fits, not_hashed}
-use Rattle.lk_law.specs.Pv.Post.{Spins, Peers, Stops, Stopped, Dozes, Sleeps, Stirs, Rises, Clears}
-use Rattle.lk_law.specs.Pv.Post.{Tries, Signs, Marks, Checks, Naps}
-use Rattle.lk_law.proofs.common.Cases.{waiter_cases}
-use Rattle.lk_law.proofs.pv.Turn.{pv_step}
-use Rattle.lk_law.proofs.pv.Met.{Met}
+use Rattle.std.proofs.Common.{ap, refl, sym, ◌∙◌, not}
+use Rattle.lk_law.proofs.Names.{Locked, Slow, NodeName, Waiter, State, Halted, Hashed, Running}
+use Rattle.lk_law.proofs.Names.{Post, PostsAgree, fits, fronts, not_hashed, raw, Checks, Clears}
+use Rattle.lk_law.proofs.Names.{Dozes, Marks, Naps, Peers, Rises, Signs, Sleeps, Stirs, Stopped}
+use Rattle.lk_law.proofs.Names.{Stops, Tries, Moves}
+use Rattle.lk_law.proofs.{common.Cases.waiter_cases, pv.Met.Met, pv.Turn.pv_step}
+use Rattle.lk_law.specs.Pv.Post.{Spins}
 
 stop-raw : (s : State) (f : Bool) → fits Stops f s ≡ true → raw Stops s ≡ true
 stop-raw s f h = grind (arith, h)

@@ -1,28 +1,17 @@
 -- What each row of the paravirtual lock makes of a world.
-use Rattle.std.proofs.Common.{ℕ, Option, Some, None, refl}
-use Rattle.std.specs.Prelude.{◌&&◌, not, is_some, if◌then◌else◌, ◌-◌, ◌==◌}
-use Rattle.lk_names.specs.declared.names.LockName.{LockName}
-use Rattle.lk_word.specs.declared.spin_word.NodeName.{NodeName}
-use Rattle.lk_word.specs.declared.spin_word.Fields.{Fields}
-use Rattle.lk_rows.specs.declared.parts.State.{State}
-use Rattle.lk_rows.specs.rows.Pv.{pv_row, pv_flag_row, pv_next_row, pv_after_next, state_row}
-use Rattle.lk_rows.specs.rows.Pv.{hash_row, halt_row, kick_row, after_given_up, is_slow_byte}
-use Rattle.lk_rows.specs.rows.Pv.{is_set, is_running, is_halted}
-use Rattle.lk_rows.specs.declared.parts.Flag.{Flag}
-use Rattle.lk_rows.specs.declared.parts.Frame.{Frame}
-use Rattle.lk_rows.specs.declared.parts.Pc.TheVariants.{G4, E1, W1, H1, H2, W2, W3, W4, W5, W6}
-use Rattle.lk_rows.specs.declared.parts.Pc.TheVariants.{W7, E2, E3, E4, E5, E6, E7, E8, E9, E10}
-use Rattle.lk_rows.specs.declared.parts.Pc.TheVariants.{E11, E12, E13, E14, E15, K1, K2, K3, U2}
-use Rattle.lk_rows.specs.declared.parts.Pc.TheVariants.{U3, U4, U5}
-use Rattle.lk_rows.specs.Moves.{node_of}
-use Rattle.lk_rows.specs.rows.Spin.{is_unlocked}
-use Rattle.lk_rows.specs.rows.Cna.{is_last, is_held}
+use Rattle.std.proofs.Common.{ℕ, Option, Some, None, refl, ◌&&◌, not, is_some, if◌then◌else◌, ◌-◌}
+use Rattle.std.proofs.Common.{◌==◌}
+use Rattle.lk_law.proofs.Names.{Fields, NodeName, LockName, node_of, Flag, Frame, E1, E2, E3, E4}
+use Rattle.lk_law.proofs.Names.{E5, E6, E7, E8, E9, E10, E11, E12, E13, E14, E15, G4, H1, H2, K1}
+use Rattle.lk_law.proofs.Names.{K2, K3, U2, U3, U4, U5, W1, W2, W3, W4, W5, W6, W7, State, is_held}
+use Rattle.lk_law.proofs.Names.{is_last, is_halted, is_running, is_set, is_slow_byte, pv_after_next}
+use Rattle.lk_law.proofs.Names.{is_unlocked, Freeing, Taking}
+use Rattle.lk_rows.specs.rows.Pv.{pv_row, pv_flag_row, pv_next_row, state_row, hash_row, halt_row}
+use Rattle.lk_rows.specs.rows.Pv.{kick_row, after_given_up}
 use Rattle.lk_law.proofs.common.Puts.{if_cases}
+use Rattle.lk_law.proofs.common.RowsMade.{Good, RowMakes, onward, onward_if, word_made, flag_made}
+use Rattle.lk_law.proofs.common.RowsMade.{next_made, state_made, hash_made, halted_made, kick_made}
 use Rattle.lk_law.proofs.rw.Else.{IsIn}
-use Rattle.lk_law.specs.SoundWorld.Part.{Taking, Freeing}
-use Rattle.lk_law.proofs.common.RowsMade.{Good, RowMakes, onward, onward_if}
-use Rattle.lk_law.proofs.common.RowsMade.{word_made, flag_made, next_made, state_made, hash_made}
-use Rattle.lk_law.proofs.common.RowsMade.{halted_made, kick_made}
 
 -- the rows where processors halt
 

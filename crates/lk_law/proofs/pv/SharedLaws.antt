@@ -1,29 +1,18 @@
 -- The laws of the rows that the paravirtual lock shares with the other families.
 use Rattle.std.proofs.Common.{◌≡◌, ◌<◌, Some, None, Bool, true, false, ◌⊎◌, inl, inr, arith, ap}
 use Rattle.std.proofs.Common.{refl}
-use Rattle.lk_names.specs.History.{LockHistory, told, taken, with_holder}
-use Rattle.lk_names.specs.declared.holder.Manner.TheVariants.{Spins}
-use Rattle.lk_names.specs.declared.names.Waiter.{Waiter}
-use Rattle.lk_names.specs.declared.names.LockName.{LockName}
-use Rattle.lk_names.specs.declared.events.How.{How}
-use Rattle.lk_names.specs.declared.events.What.TheVariants.{Take, Arrive}
-use Rattle.lk_word.specs.declared.spin_word.NodeName.{NodeName}
-use Rattle.lk_word.specs.declared.spin_word.Fields.{Fields}
-use Rattle.lk_word.specs.declared.spin_word.Locked.TheVariants.{Free, Held}
-use Rattle.lk_rows.specs.declared.parts.Node.{Node}
-use Rattle.lk_rows.specs.Machine.{rest_node}
-use Rattle.lk_law.specs.Phase.{Phase, pends, queues}
-use Rattle.lk_law.specs.Phase.Phase.{Idle, Seeks, Prepared, Links, Waits, Leads}
-use Rattle.lk_law.specs.Pv.{agrees}
-use Rattle.lk_law.specs.Pv.Post.{Off, Joins, Spins as Turns, Rises}
-use Rattle.lk_law.specs.Snapshot.{Snapshot, Rewrites}
-use Rattle.lk_law.specs.Agree.{SnapshotAgrees, Step, Stays, LeavesSlowPath, EntersSlowPath, halts}
-use Rattle.lk_names.proofs.ByIndex.{last_cases, get_cases}
-use Rattle.lk_law.proofs.spin.Laws.{SameNodes, IsTurn, law_turn_as, law_take_as}
-use Rattle.lk_law.proofs.queue.EntryLaws.{next_node, enter_used, law_enter_as, law_enter_bare_as}
-use Rattle.lk_law.proofs.queue.Laws.{law_arrive_as, law_link_as}
+use Rattle.lk_law.proofs.Names.{Fields, Free, Held, NodeName, get_cases, last_cases, LockHistory}
+use Rattle.lk_law.proofs.Names.{taken, told, with_holder, How, Arrive, Take, Spins, LockName}
+use Rattle.lk_law.proofs.Names.{Waiter, rest_node, Node, EntersSlowPath, LeavesSlowPath}
+use Rattle.lk_law.proofs.Names.{SnapshotAgrees, Stays, Step, halts, Phase, pends, queues, Idle}
+use Rattle.lk_law.proofs.Names.{Leads, Links, Prepared, Seeks, Waits, agrees, Joins, Off, Rises}
+use Rattle.lk_law.proofs.Names.{Rewrites, Snapshot}
 use Rattle.lk_law.proofs.pv.Laws.{para_queue}
 use Rattle.lk_law.proofs.pv.Outside.{Posted, para_outside, para_joins, para_comes, para_links}
+use Rattle.lk_law.proofs.queue.EntryLaws.{next_node, enter_used, law_enter_as, law_enter_bare_as}
+use Rattle.lk_law.proofs.queue.Laws.{law_arrive_as, law_link_as}
+use Rattle.lk_law.proofs.spin.Laws.{SameNodes, IsTurn, law_turn_as, law_take_as}
+use Rattle.lk_law.specs.Pv.Post.{Spins as Turns}
 
 module _ {s s' : Snapshot} {hs : LockName → LockHistory} {w : Waiter} {l : LockName}
     (ok : SnapshotAgrees s hs) (on : halts s.mode ≡ true) where

@@ -1,62 +1,35 @@
 -- The rows that all families share keep every sound world, also where processors halt.
 use Rattle.std.proofs.Common.{◌≡◌, ◌≢◌, ◌⊎◌, inl, inr, ℕ, Option, Some, None, Bool, true, false, []}
-use Rattle.std.proofs.Common.{◌∷◌, arith, ap, ◌+◌, refl, sym, ◌∙◌, subst}
-use Rattle.std.specs.Prelude.{nat_lt, is_some}
-use Rattle.std.proofs.lemmas.Bool.{ltb-true}
-use Rattle.lk_names.specs.Lawful.{IsOutside, TakesInOrder}
-use Rattle.lk_names.specs.History.{taken, with_holder}
-use Rattle.lk_names.specs.declared.holder.Manner.{Manner}
-use Rattle.lk_names.specs.declared.holder.Manner.TheVariants.{Spins}
-use Rattle.lk_names.specs.declared.names.Mode.{Mode}
-use Rattle.lk_names.specs.declared.names.Mode.TheVariants.{Virt, Native, Cna, Pv}
-use Rattle.lk_names.specs.declared.events.How.{How}
-use Rattle.lk_names.specs.declared.events.How.TheVariants as how
-use Rattle.lk_names.specs.declared.events.What.TheVariants.{Take, Miss, Arrive}
-use Rattle.lk_word.specs.declared.spin_word.NodeName.{NodeName}
-use Rattle.lk_word.specs.declared.spin_word.Fields.{Fields}
-use Rattle.lk_rows.specs.declared.parts.Node.{Node}
-use Rattle.lk_rows.specs.declared.parts.Frame.{Frame}
-use Rattle.lk_rows.specs.declared.parts.Pc.{Pc}
-use Rattle.lk_rows.specs.declared.parts.Pc.TheVariants.{F1, T1, T2, G1, G4, G5, H1, W1, E1}
-use Rattle.lk_rows.specs.Machine.{rest_node}
-use Rattle.lk_rows.specs.Moves.{node_of}
-use Rattle.lk_rows.specs.Row.{Lead, Nothing, Says, Goes, Enters, Granted, Missed, Prev, Left}
-use Rattle.lk_rows.specs.Row.{looks, misses}
-use Rattle.lk_rows.specs.rows.Spin.{is_free, held_word, takes, after_fast}
-use Rattle.lk_rows.specs.rows.Queue.{after_entry, after_arrival, after_link}
-use Rattle.lk_law.specs.Phase.{has_node, seeks, queues}
-use Rattle.lk_law.specs.Phase.Phase.{Seeks}
-use Rattle.lk_law.specs.Pv.Post.{Off, Kicks}
-use Rattle.lk_law.specs.Agree.{halts}
-use Rattle.lk_law.specs.World.{World}
-use Rattle.lk_law.specs.Places.{snapshot, phase_of, phase_at, post_at}
-use Rattle.lk_law.specs.Families.{is_slow}
-use Rattle.lk_law.specs.Steps.{put_word}
-use Rattle.lk_law.specs.Steps.{put_node, put_queued, led, lead_on}
-use Rattle.lk_law.specs.Registers.{RegistersFit}
-use Rattle.lk_law.specs.SpinLaws.{SpinRowKeeps}
-use Rattle.lk_law.proofs.spin.Laws.{turn_misses, turn_on}
-use Rattle.lk_law.proofs.pv.SharedLaws.{law_turn_pv, law_take_pv, law_enter_pv, law_enter_bare_pv}
-use Rattle.lk_law.proofs.pv.SharedLaws.{law_arrive_behind_pv, law_arrive_first_pv, law_link_pv}
-use Rattle.lk_law.proofs.common.Told.{law_miss}
-use Rattle.lk_law.proofs.common.Allowed.{allow_take, allow_miss, allow_arrive}
-use Rattle.lk_law.proofs.common.Puts.{if_cases, put_word-here, put_number-here, put_number-else}
-use Rattle.lk_law.proofs.common.Puts.{put_rewrites}
-use Rattle.lk_law.proofs.common.Turns.{Turn, same_turn, word_turn, node_turn}
-use Rattle.lk_law.proofs.common.TurnSteps.{node_plain}
-use Rattle.lk_law.proofs.common.TurnSteps.{queued_plain}
-use Rattle.lk_law.proofs.common.Choices.{unchosen, fit_placeless, fit_quiet, fit_goes}
-use Rattle.lk_law.proofs.common.TurnSteps.{turn_stays, turn_enters, turn_own, turn_kept}
+use Rattle.std.proofs.Common.{◌∷◌, arith, ap, ◌+◌, refl, sym, ◌∙◌, subst, nat_lt, is_some}
+use Rattle.lk_law.proofs.Names.{ltb-true, Fields, NodeName, taken, with_holder, IsOutside}
+use Rattle.lk_law.proofs.Names.{TakesInOrder, How, Arrive, Miss, Take, Manner, Spins, Mode, Cna}
+use Rattle.lk_law.proofs.Names.{Native, Pv, Virt, rest_node, node_of, Enters, Goes, Granted, Lead}
+use Rattle.lk_law.proofs.Names.{Left, Missed, Nothing, Prev, Says, looks, misses, Frame, Node, Pc}
+use Rattle.lk_law.proofs.Names.{E1, F1, G1, G4, G5, H1, T1, T2, W1, after_arrival, after_entry}
+use Rattle.lk_law.proofs.Names.{after_link, after_fast, held_word, is_free, takes, halts, is_slow}
+use Rattle.lk_law.proofs.Names.{has_node, queues, seeks, Seeks, phase_at, phase_of, post_at}
+use Rattle.lk_law.proofs.Names.{snapshot, Kicks, Off, RegistersFit, SpinRowKeeps, lead_on, led}
+use Rattle.lk_law.proofs.Names.{put_node, put_queued, put_word, World}
 use Rattle.lk_law.proofs.common.Acting.{Acting, StandsIn, Kept, row_keeps_both, fit_here}
 use Rattle.lk_law.proofs.common.Acting.{phase_here, phase_shown, slow_here, held_not, granted_place}
 use Rattle.lk_law.proofs.common.Acting.{placeless_phase, quiet_phase, quiet_off}
-use Rattle.lk_law.proofs.spin.RowsKeep.{WordKept, free_word, fast_awake, try_look_awake}
-use Rattle.lk_law.proofs.spin.RowsKeep.{try_take_awake}
-use Rattle.lk_law.proofs.queue.EntryRowsKeep.{entry_awake}
-use Rattle.lk_law.proofs.queue.ArriveRowsKeep.{own_node_here, arrive_awake, link_awake}
+use Rattle.lk_law.proofs.common.Allowed.{allow_take, allow_miss, allow_arrive}
 use Rattle.lk_law.proofs.common.Begins.{place_off}
+use Rattle.lk_law.proofs.common.Choices.{unchosen, fit_placeless, fit_quiet, fit_goes}
+use Rattle.lk_law.proofs.common.Puts.{if_cases, put_word-here, put_number-here, put_number-else}
+use Rattle.lk_law.proofs.{common.Puts.put_rewrites, common.Told.law_miss}
+use Rattle.lk_law.proofs.common.TurnSteps.{node_plain, queued_plain, turn_stays, turn_enters}
+use Rattle.lk_law.proofs.common.TurnSteps.{turn_own, turn_kept}
+use Rattle.lk_law.proofs.common.Turns.{Turn, same_turn, word_turn, node_turn}
 use Rattle.lk_law.proofs.pv.Acting.{fit_halting, halting_plain, hm_owed, hm_step, hm_step_as}
 use Rattle.lk_law.proofs.pv.Acting.{hm_posted, hm_posted_as, hm_stays, hm_kept, flags_here}
+use Rattle.lk_law.proofs.pv.SharedLaws.{law_turn_pv, law_take_pv, law_enter_pv, law_enter_bare_pv}
+use Rattle.lk_law.proofs.pv.SharedLaws.{law_arrive_behind_pv, law_arrive_first_pv, law_link_pv}
+use Rattle.lk_law.proofs.queue.ArriveRowsKeep.{own_node_here, arrive_awake, link_awake}
+use Rattle.lk_law.proofs.{queue.EntryRowsKeep.entry_awake, spin.Laws.{turn_misses, turn_on}}
+use Rattle.lk_law.proofs.spin.RowsKeep.{WordKept, free_word, fast_awake, try_look_awake}
+use Rattle.lk_law.proofs.spin.RowsKeep.{try_take_awake}
+use Rattle.lk_names.specs.declared.events.How.TheVariants as how
 
 -- the row is before the lock, outside of the slow path
 record IsOpen (c : Pc) : Type 0 where

@@ -1,17 +1,10 @@
 use Rattle.std.proofs.Common.{◌≡◌, ◌≢◌, Option, Some, None, Bool, true, false, ◌⊎◌, inl, inr, arith}
 use Rattle.std.proofs.Common.{ap, refl, sym, ◌∙◌}
-use Rattle.lk_names.specs.declared.names.Waiter.{Waiter}
-use Rattle.lk_word.specs.declared.spin_word.NodeName.{NodeName}
-use Rattle.lk_word.specs.declared.spin_word.Locked.{Locked}
-use Rattle.lk_word.specs.declared.spin_word.Locked.TheVariants.{Free, Held, Slow}
-use Rattle.lk_rows.specs.declared.parts.State.{State}
-use Rattle.lk_law.specs.Snapshot.{Moves}
-use Rattle.lk_law.specs.Pv.{Post, PostsAgree, bare, post_full, touches, slow_at, one_at, calls}
-use Rattle.lk_law.specs.Pv.{slowing}
-use Rattle.lk_law.specs.Pv.{dozes, names, post_holds, raw}
-use Rattle.lk_law.specs.Pv.Post.{Off, Slows, Erases, Slowing, Signing, Finds, Drops, Kicks}
-use Rattle.lk_law.proofs.common.Cases.{waiter_cases}
-use Rattle.lk_law.proofs.pv.Met.{Met}
+use Rattle.lk_law.proofs.Names.{Locked, Free, Held, Slow, NodeName, Waiter, State, Post, PostsAgree}
+use Rattle.lk_law.proofs.Names.{bare, calls, dozes, names, one_at, post_full, post_holds, raw}
+use Rattle.lk_law.proofs.Names.{slow_at, slowing, touches, Drops, Erases, Finds, Kicks, Off}
+use Rattle.lk_law.proofs.Names.{Signing, Slowing, Slows, Moves}
+use Rattle.lk_law.proofs.{common.Cases.waiter_cases, pv.Met.Met}
 
 -- what the posts say of one another
 full-cases : (p : Post) → post_full p ≡ true → (p ≡ Slows) ⊎ (p ≡ Erases)

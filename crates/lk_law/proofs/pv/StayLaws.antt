@@ -1,36 +1,23 @@
 -- The laws of the rows of the paravirtual lock in which the phase stays: a waiter or a front looks,
 -- says what its processor does, or changes the hash or the byte.
 use Rattle.std.proofs.Common.{◌≡◌, ◌≢◌, Some, Bool, true, ◌⊎◌, inl, inr, arith, ap, refl, sym, ◌∙◌}
-use Rattle.std.proofs.Common.{subst, slice_get}
-use Rattle.std.specs.Prelude.{not, if◌then◌else◌}
-use Rattle.lk_names.specs.History.{LockHistory}
-use Rattle.lk_names.specs.declared.names.Waiter.{Waiter}
-use Rattle.lk_names.specs.declared.names.LockName.{LockName}
-use Rattle.lk_names.specs.Names.{same_waiter}
-use Rattle.lk_word.specs.declared.spin_word.NodeName.{NodeName}
-use Rattle.lk_word.specs.declared.spin_word.Fields.{Fields}
-use Rattle.lk_word.specs.declared.spin_word.Locked.TheVariants.{Free, Slow}
-use Rattle.lk_rows.specs.declared.parts.State.{State}
-use Rattle.lk_rows.specs.declared.parts.State.TheVariants.{Running, Halted, Hashed}
-use Rattle.lk_rows.specs.declared.parts.Node.{Node}
-use Rattle.lk_law.specs.Phase.{Phase, has_node, queues}
-use Rattle.lk_law.specs.Phase.Phase.{Prepared, Waits, Leads}
-use Rattle.lk_law.specs.Pv.{Post, PostsAgree, agrees, not_hashed}
-use Rattle.lk_law.specs.Pv.Post.{Spins, Peers, Stops, Stopped, Dozes, Sleeps, Stirs, Rises, Clears}
-use Rattle.lk_law.specs.Pv.Post.{Tries, Marks, Checks, Naps}
-use Rattle.lk_law.specs.Snapshot.{Snapshot, Moves, Rewrites}
-use Rattle.lk_law.specs.Agree.{SnapshotAgrees, Step, Stays, Owed, halts, node_state}
+use Rattle.std.proofs.Common.{subst, slice_get, not, if◌then◌else◌}
+use Rattle.lk_law.proofs.Names.{Fields, Free, Slow, NodeName, LockHistory, same_waiter, LockName}
+use Rattle.lk_law.proofs.Names.{Waiter, Node, State, Halted, Hashed, Running, Owed, SnapshotAgrees}
+use Rattle.lk_law.proofs.Names.{Stays, Step, halts, node_state, Phase, has_node, queues, Leads}
+use Rattle.lk_law.proofs.Names.{Prepared, Waits, Post, PostsAgree, agrees, not_hashed, Checks}
+use Rattle.lk_law.proofs.Names.{Clears, Dozes, Marks, Naps, Peers, Rises, Sleeps, Stirs, Stopped}
+use Rattle.lk_law.proofs.Names.{Stops, Tries, Moves, Rewrites, Snapshot}
 use Rattle.lk_law.proofs.common.Cases.{waiter_cases, node_cases}
 use Rattle.lk_law.proofs.common.Families.{lists_rest, lists_main}
-use Rattle.lk_law.proofs.spin.Laws.{SameNodes}
-use Rattle.lk_law.proofs.queue.Laws.{apart_on, rewrite_here, own_is}
-use Rattle.lk_law.proofs.pv.Keep.{pv_keep, noded_post, agrees-noded}
 use Rattle.lk_law.proofs.common.Puts.{put_moves, if-true, if-false, same_waiter-else}
 use Rattle.lk_law.proofs.common.Sames.{same_waiter-self}
+use Rattle.lk_law.proofs.pv.Keep.{pv_keep, noded_post, agrees-noded}
+use Rattle.lk_law.proofs.{pv.Laws.{para, law_still, posts_met}, pv.Outside.{Posted, post_moves}}
 use Rattle.lk_law.proofs.pv.Rows.{w1_look, w2_again, w2_stop, w3_halted, w4_doze, w4_stir, w5_sleep}
 use Rattle.lk_law.proofs.pv.Rows.{w5_stir, w7_spin, e1_rise, e2_clear, e10_mark, e11_nap, e11_back}
-use Rattle.lk_law.proofs.pv.Laws.{para, law_still, posts_met}
-use Rattle.lk_law.proofs.pv.Outside.{Posted, post_moves}
+use Rattle.lk_law.proofs.{queue.Laws.{apart_on, rewrite_here, own_is}, spin.Laws.SameNodes}
+use Rattle.lk_law.specs.Pv.Post.{Spins}
 
 -- nothing changes of the states
 pub same_state : (s : Snapshot) (w : Waiter)

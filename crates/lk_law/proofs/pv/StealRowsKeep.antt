@@ -1,33 +1,21 @@
 -- The rows of a steal of the paravirtual lock keep every sound world: H1 and H2.
 use Rattle.std.proofs.Common.{◌≡◌, ℕ, Option, Some, None, true, [], ◌∷◌, ap, ◌-◌, refl, sym, ◌∙◌}
-use Rattle.std.specs.Prelude.{if◌then◌else◌, is_some, ◌&&◌, not}
-use Rattle.lk_names.specs.declared.holder.Manner.TheVariants.{Spins}
-use Rattle.lk_word.specs.declared.spin_word.NodeName.{NodeName}
-use Rattle.lk_word.specs.declared.spin_word.Locked.TheVariants.{Held}
-use Rattle.lk_rows.specs.declared.parts.Frame.{Frame}
-use Rattle.lk_rows.specs.declared.parts.Pc.{Pc}
-use Rattle.lk_rows.specs.declared.parts.Pc.TheVariants.{G4, H1, H2}
-use Rattle.lk_rows.specs.Row.{Nothing, Says, Goes, Tailed, PvLockStealing, looks, Leaves}
-use Rattle.lk_rows.specs.rows.Spin.{is_unlocked}
-use Rattle.lk_rows.specs.rows.Pv.{with_byte, after_given_up}
-use Rattle.lk_law.specs.Phase.{has_node, seeks, queues}
-use Rattle.lk_law.specs.Phase.Phase.{Seeks, Prepared}
-use Rattle.lk_law.specs.Agree.{Owed}
-use Rattle.lk_law.specs.Places.{snapshot}
-use Rattle.lk_law.specs.Steps.{put_word, put_queued, led, lead_on}
-use Rattle.lk_law.specs.SpinLaws.{SpinRowKeeps}
-use Rattle.lk_law.proofs.common.Puts.{if_cases, put_word-here}
-use Rattle.lk_law.proofs.common.Turns.{Turn, turned, same_turn, word_turn}
-use Rattle.lk_law.proofs.common.Choices.{unchosen, fit_goes, fit_quiet}
+use Rattle.std.proofs.Common.{if◌then◌else◌, is_some, ◌&&◌, not}
+use Rattle.lk_law.proofs.Names.{Held, NodeName, Spins, Goes, Leaves, Nothing, Says, looks, Frame}
+use Rattle.lk_law.proofs.Names.{Pc, G4, H1, H2, with_byte, is_unlocked, Owed, has_node, queues}
+use Rattle.lk_law.proofs.Names.{seeks, Prepared, Seeks, snapshot, SpinRowKeeps, lead_on, led}
+use Rattle.lk_law.proofs.Names.{put_queued, put_word}
+use Rattle.lk_rows.specs.{Row.{Tailed, PvLockStealing}, rows.Pv.after_given_up}
 use Rattle.lk_law.proofs.common.Acting.{Acting, StandsIn, Kept, row_keeps_halting, fit_here}
 use Rattle.lk_law.proofs.common.Acting.{phase_here, phase_shown, held_not, left_place, quiet_phase}
-use Rattle.lk_law.proofs.common.Acting.{quiet_off}
-use Rattle.lk_law.proofs.spin.RowsKeep.{WordKept, unlocked_free}
+use Rattle.lk_law.proofs.{common.Acting.quiet_off, common.Choices.{unchosen, fit_goes, fit_quiet}}
+use Rattle.lk_law.proofs.common.Puts.{if_cases, put_word-here}
+use Rattle.lk_law.proofs.common.Turns.{Turn, turned, same_turn, word_turn}
 use Rattle.lk_law.proofs.pv.Acting.{fit_halting, halting_plain, post_here, hm_posts, hm_owed}
 use Rattle.lk_law.proofs.pv.Acting.{hm_step_as, hm_kept, hm_same, off_turn, off_leaves, flags_here}
-use Rattle.lk_law.proofs.pv.EndLaws.{law_H2}
-use Rattle.lk_law.proofs.pv.Allowed.{allow_steal}
+use Rattle.lk_law.proofs.{pv.Allowed.allow_steal, pv.EndLaws.law_H2}
 use Rattle.lk_law.proofs.pv.HolderRowsKeep.{outside_if, seeks_if, way_if}
+use Rattle.lk_law.proofs.spin.RowsKeep.{WordKept, unlocked_free}
 use Rattle.lk_names.specs.declared.events.How.TheVariants as how
 use Rattle.lk_names.specs.declared.events.What.TheVariants as what
 

@@ -1,20 +1,13 @@
 use Rattle.std.proofs.Common.{◌≡◌, ◌≢◌, Option, Some, None, Bool, true, false, ◌⊎◌, inl, inr, arith}
 use Rattle.std.proofs.Common.{ap, refl, sym, ◌∙◌, subst}
-use Rattle.lk_names.specs.declared.names.Waiter.{Waiter}
-use Rattle.lk_word.specs.declared.spin_word.NodeName.{NodeName}
-use Rattle.lk_word.specs.declared.spin_word.Locked.{Locked}
-use Rattle.lk_word.specs.declared.spin_word.Locked.TheVariants.{Free, Held, Slow}
-use Rattle.lk_rows.specs.declared.parts.State.{State}
-use Rattle.lk_rows.specs.declared.parts.State.TheVariants.{Halted, Hashed}
-use Rattle.lk_law.specs.Snapshot.{Moves}
-use Rattle.lk_law.specs.Pv.{Post, PostsAgree, bare, post_full, touches, slow_at, one_at, calls}
-use Rattle.lk_law.specs.Pv.{slowing}
-use Rattle.lk_law.specs.Pv.{dozes, names, post_holds, fronts, raw, fits, at_halt}
-use Rattle.lk_law.specs.Pv.Post.{Spins, Peers, Stops, Stopped, Dozes, Sleeps, Stirs, Signs, Slows}
-use Rattle.lk_law.specs.Pv.Post.{Wins, Erases, Marks, Naps, Has}
-use Rattle.lk_law.proofs.common.Cases.{waiter_cases}
+use Rattle.lk_law.proofs.Names.{Locked, Free, Held, Slow, NodeName, Waiter, State, Halted, Hashed}
+use Rattle.lk_law.proofs.Names.{Post, PostsAgree, at_halt, bare, calls, dozes, fits, fronts, names}
+use Rattle.lk_law.proofs.Names.{one_at, post_full, post_holds, raw, slow_at, slowing, touches}
+use Rattle.lk_law.proofs.Names.{Dozes, Erases, Has, Marks, Naps, Peers, Signs, Sleeps, Slows, Stirs}
+use Rattle.lk_law.proofs.Names.{Stopped, Stops, Wins, Moves}
+use Rattle.lk_law.proofs.{common.Cases.waiter_cases, pv.Met.Met}
 use Rattle.lk_law.proofs.pv.Slow.{bare-touches, slow_at-holds}
-use Rattle.lk_law.proofs.pv.Met.{Met}
+use Rattle.lk_law.specs.Pv.Post.{Spins}
 
 pub full-fronts : (p : Post) → post_full p ≡ true → fronts p ≡ true
 full-fronts p h = grind arith

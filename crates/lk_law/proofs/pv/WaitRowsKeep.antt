@@ -1,39 +1,27 @@
 -- The rows of a waiter that may halt keep every sound world: it looks at its flag and at the one
 -- before it, says that it halts, halts, and wakes.
 use Rattle.std.proofs.Common.{◌≡◌, ◌≢◌, ◌⊎◌, inl, inr, ℕ, Some, None, Bool, true, false, [], ◌∷◌}
-use Rattle.std.proofs.Common.{arith, ap, ◌-◌, ◌<◌, refl, sym, ◌∙◌}
-use Rattle.std.specs.Prelude.{if◌then◌else◌, ◌==◌}
-use Rattle.std.proofs.lemmas.Bool.{cases_Bool, eqb-true}
-use Rattle.lk_names.specs.declared.events.What.TheVariants as what
-use Rattle.lk_rows.specs.declared.parts.Flag.{Flag}
-use Rattle.lk_rows.specs.declared.parts.State.{State}
-use Rattle.lk_rows.specs.declared.parts.State.TheVariants.{Running, Halted, Hashed}
-use Rattle.lk_rows.specs.declared.parts.Frame.{Frame}
-use Rattle.lk_rows.specs.declared.parts.Pc.{Pc}
-use Rattle.lk_rows.specs.declared.parts.Pc.TheVariants.{W1, W2, W3, W4, W5, W6, W7, E1}
-use Rattle.lk_rows.specs.Moves.{node_of}
-use Rattle.lk_rows.specs.Row.{Effect, Nothing, Says, Goes, Left, PvWaitNode, looks, learns}
-use Rattle.lk_rows.specs.rows.Pv.{is_set, is_running, is_halted, peer_again}
-use Rattle.lk_law.specs.Phase.{Phase, seeks, leads}
-use Rattle.lk_law.specs.Agree.{Owed}
-use Rattle.lk_law.specs.Places.{snapshot}
-use Rattle.lk_law.specs.Steps.{put_node, put_halted, lead_on, stores_flag, stores_state}
-use Rattle.lk_law.specs.SpinLaws.{SpinRowKeeps}
-use Rattle.lk_law.proofs.common.Puts.{if_cases, if-false}
-use Rattle.lk_law.proofs.common.Turns.{Turn, turned, same_turn}
-use Rattle.lk_law.proofs.common.TurnSteps.{node_plain}
+use Rattle.std.proofs.Common.{arith, ap, ◌-◌, ◌<◌, refl, sym, ◌∙◌, if◌then◌else◌, ◌==◌}
+use Rattle.lk_law.proofs.Names.{cases_Bool, eqb-true, node_of, Effect, Goes, Left, Nothing, Says}
+use Rattle.lk_law.proofs.Names.{looks, Flag, Frame, Pc, E1, W1, W2, W3, W4, W5, W6, W7, State}
+use Rattle.lk_law.proofs.Names.{Halted, Hashed, Running, is_halted, is_running, is_set, Owed, Phase}
+use Rattle.lk_law.proofs.Names.{leads, seeks, snapshot, SpinRowKeeps, lead_on, put_node}
+use Rattle.lk_law.proofs.Names.{stores_flag, stores_state}
+use Rattle.lk_rows.specs.{Row.{PvWaitNode, learns}, rows.Pv.peer_again}
 use Rattle.lk_law.proofs.common.Acting.{Acting, StandsIn, Kept, row_keeps_halting, fit_here}
 use Rattle.lk_law.proofs.common.Acting.{phase_here, phase_shown, held_not}
-use Rattle.lk_law.proofs.queue.Lead.{lead_first}
-use Rattle.lk_law.proofs.pv.Laws.{para_queue}
+use Rattle.lk_law.proofs.{common.Puts.{if_cases, if-false}, common.TurnSteps.node_plain}
+use Rattle.lk_law.proofs.common.Turns.{Turn, turned, same_turn}
 use Rattle.lk_law.proofs.pv.Acting.{fit_halting, halting_plain, hm_posts, hm_posted, hm_owed}
 use Rattle.lk_law.proofs.pv.Acting.{hm_step, hm_stays, hm_kept, hm_same, flags_here, state_turn}
 use Rattle.lk_law.proofs.pv.Acting.{state_here, writes_here, flag_leads, flag_behind}
+use Rattle.lk_law.proofs.{pv.EndLaws.law_W1_rise, pv.Find.{law_halt, allow_halt}}
+use Rattle.lk_law.proofs.pv.Laws.{para_queue}
 use Rattle.lk_law.proofs.pv.StayLaws.{law_W1, law_W2_again, law_W2_stop, law_W3, law_W4_doze}
 use Rattle.lk_law.proofs.pv.StayLaws.{law_W4_stir, law_W5_sleep, law_W5_stir, law_W7_spin}
-use Rattle.lk_law.proofs.pv.StayLaws.{law_W7_run}
-use Rattle.lk_law.proofs.pv.EndLaws.{law_W1_rise}
-use Rattle.lk_law.proofs.pv.Find.{law_halt, allow_halt}
+use Rattle.lk_law.proofs.{pv.StayLaws.law_W7_run, queue.Lead.lead_first}
+use Rattle.lk_law.specs.Steps.{put_halted}
+use Rattle.lk_names.specs.declared.events.What.TheVariants as what
 
 -- the processor halts, and no other
 pub halt_only : (f : ℕ → Bool) (p q : ℕ) → (if q == p then true else f q) ≡ true

@@ -1,17 +1,12 @@
 -- The queue, where a waiter takes the tail: behind another, or first.
 use Rattle.std.proofs.Common.{◌≡◌, ℕ, suc, Option, Some, None, true, List, [], ◌∷◌, ◌++◌, length}
 use Rattle.std.proofs.Common.{inl, inr, arith, ap, slice_get, refl, zero, subst, sym}
-use Rattle.lk_names.specs.declared.names.Waiter.{Waiter}
-use Rattle.lk_word.specs.declared.spin_word.NodeName.{NodeName}
-use Rattle.lk_rows.specs.declared.parts.Node.{Node}
-use Rattle.lk_rows.specs.declared.parts.Flag.TheVariants.{Unset}
-use Rattle.lk_law.specs.Phase.{Phase, queues, leads, follows}
-use Rattle.lk_law.specs.Snapshot.{Moves, QueueAgrees}
-use Rattle.lk_rows.specs.Machine.{rest_node}
-use Rattle.lk_law.specs.Phase.Phase.{Prepared, Links, Leads, Waits, Hands}
+use Rattle.lk_law.proofs.Names.{NodeName, get-append_old, get_cases, last_cases, Waiter, rest_node}
+use Rattle.lk_law.proofs.Names.{Unset, Node, Phase, follows, leads, queues, Hands, Leads, Links}
+use Rattle.lk_law.proofs.Names.{Prepared, Waits, Moves, QueueAgrees}
+use Rattle.lk_names.proofs.ByIndex.{get-append, get-append_new, get-append_none, get-append_last}
+use Rattle.lk_names.proofs.ByIndex.{get-append_two}
 use Rattle.lk_law.proofs.common.Cases.{waiter_cases}
-use Rattle.lk_names.proofs.ByIndex.{get-append, get-append_old, get-append_new, get-append_none}
-use Rattle.lk_names.proofs.ByIndex.{get-append_last, get-append_two, get_cases, last_cases}
 
 -- a waiter seeks the tail and meets another node there
 module _ {tail : Option NodeName} {phase phase' : Waiter → Phase} {own : Waiter → NodeName}

@@ -1,42 +1,23 @@
 -- The rows of a waiter that arrives, links and waits keep every sound world: G4 to G6.
 use Rattle.std.proofs.Common.{◌≡◌, ◌≢◌, inl, inr, ℕ, Option, Some, None, Bool, true, false, [], ◌∷◌}
-use Rattle.std.proofs.Common.{arith, ap, refl, sym, ◌∙◌, subst}
-use Rattle.std.specs.Prelude.{is_some, ◌&&◌, not}
-use Rattle.lk_names.specs.declared.names.Mode.{Mode}
-use Rattle.lk_names.specs.declared.names.Mode.TheVariants.{Virt, Native, Cna, Pv}
-use Rattle.lk_names.specs.declared.events.What.TheVariants.{Arrive}
-use Rattle.lk_word.specs.declared.spin_word.NodeName.{NodeName}
-use Rattle.lk_word.specs.declared.spin_word.Fields.{Fields}
-use Rattle.lk_rows.specs.declared.parts.Flag.{Flag}
-use Rattle.lk_rows.specs.declared.parts.Node.{Node}
-use Rattle.lk_rows.specs.declared.parts.Frame.{Frame}
-use Rattle.lk_rows.specs.declared.parts.Pc.{Pc}
-use Rattle.lk_rows.specs.declared.parts.Pc.TheVariants.{G4, G5, G6, G7, G11}
-use Rattle.lk_rows.specs.Moves.{node_of}
-use Rattle.lk_rows.specs.Row.{Effect, Lead, Nothing, Says, Goes, Prev}
-use Rattle.lk_rows.specs.rows.Queue.{after_arrival, after_flag, after_link}
-use Rattle.lk_law.specs.Phase.{has_node, leads}
-use Rattle.lk_law.specs.Phase.Phase.{Prepared, Links, Waits, Leads}
-use Rattle.lk_law.specs.Cna.{node_in}
-use Rattle.lk_law.specs.Pv.Post.{Off}
-use Rattle.lk_law.specs.Places.{post_at, snapshot, phase_of}
-use Rattle.lk_law.specs.Families.{chooses, may_halt}
-use Rattle.lk_law.specs.Steps.{put_word, put_node, lead_on, stores_flag}
-use Rattle.lk_law.specs.Agree.{halts}
-use Rattle.lk_law.specs.SpinLaws.{SpinRowKeeps}
-use Rattle.lk_law.proofs.queue.Laws.{law_arrive, law_link, law_lead}
-use Rattle.lk_law.proofs.common.Allowed.{allow_arrive}
-use Rattle.lk_law.proofs.common.Puts.{put_word-here, put_rewrites}
-use Rattle.lk_law.proofs.common.Users.{some_is}
-use Rattle.lk_law.proofs.common.Choices.{fixed_choice}
-use Rattle.lk_law.proofs.common.TurnSteps.{turn_kept, word_plain}
-use Rattle.lk_law.proofs.common.Turns.{same_turn, word_turn}
+use Rattle.std.proofs.Common.{arith, ap, refl, sym, ◌∙◌, subst, is_some, ◌&&◌, not}
+use Rattle.lk_law.proofs.Names.{Fields, NodeName, Arrive, Mode, Cna, Native, Pv, Virt, node_of}
+use Rattle.lk_law.proofs.Names.{Effect, Goes, Lead, Nothing, Prev, Says, Flag, Frame, Node, Pc, G4}
+use Rattle.lk_law.proofs.Names.{G5, G6, G7, G11, after_arrival, after_flag, after_link, halts}
+use Rattle.lk_law.proofs.Names.{chooses, may_halt, has_node, leads, Leads, Links, Prepared, Waits}
+use Rattle.lk_law.proofs.Names.{phase_of, post_at, snapshot, Off, SpinRowKeeps, lead_on, put_node}
+use Rattle.lk_law.proofs.Names.{put_word, stores_flag}
 use Rattle.lk_law.proofs.common.Acting.{Acting, StandsAwake, StandsIn, Kept, KeepsIn}
-use Rattle.lk_law.proofs.common.Acting.{spin_row_keeps}
-use Rattle.lk_law.proofs.common.Acting.{fit_here, phase_here, phase_shown, own_here, slow_here}
-use Rattle.lk_law.proofs.common.Acting.{ReadAlike, looks_kept, Going, going_step, going_stays}
-use Rattle.lk_law.proofs.common.Acting.{goes_kept, LeadsTo, gone_on, word_going, look_going}
-use Rattle.lk_law.proofs.common.Acting.{node_going, going_word, awake_here}
+use Rattle.lk_law.proofs.common.Acting.{spin_row_keeps, fit_here, phase_here, phase_shown, own_here}
+use Rattle.lk_law.proofs.common.Acting.{slow_here, ReadAlike, looks_kept, Going, going_step}
+use Rattle.lk_law.proofs.common.Acting.{going_stays, goes_kept, LeadsTo, gone_on, word_going}
+use Rattle.lk_law.proofs.common.Acting.{look_going, node_going, going_word, awake_here}
+use Rattle.lk_law.proofs.{common.Allowed.allow_arrive, common.Choices.fixed_choice}
+use Rattle.lk_law.proofs.common.Puts.{put_word-here, put_rewrites}
+use Rattle.lk_law.proofs.common.TurnSteps.{turn_kept, word_plain}
+use Rattle.lk_law.proofs.{common.Turns.{same_turn, word_turn}, common.Users.some_is}
+use Rattle.lk_law.proofs.queue.Laws.{law_arrive, law_link, law_lead}
+use Rattle.lk_law.specs.Cna.{node_in}
 use Rattle.lk_rows.specs.declared.parts.Flag.TheVariants as flag
 
 pub both-true : (a b : Bool) → (a && b) ≡ true → (a ≡ true) × (b ≡ true)

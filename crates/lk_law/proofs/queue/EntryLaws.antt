@@ -1,23 +1,14 @@
 -- The laws of the entry to the slow path: with a node, and without one.
 use Rattle.std.proofs.Common.{◌≡◌, ◌≢◌, ℕ, true, false, inl, inr, arith, ap, ◌<◌, ◌≤◌, refl, sym}
 use Rattle.std.proofs.Common.{◌∙◌, subst}
-use Rattle.std.proofs.lemmas.Bool.{cases_eq}
-use Rattle.lk_names.specs.History.{LockHistory}
-use Rattle.lk_names.specs.declared.names.Waiter.{Waiter}
-use Rattle.lk_names.specs.declared.names.LockName.{LockName}
-use Rattle.lk_word.specs.declared.spin_word.NodeName.{NodeName}
-use Rattle.lk_rows.specs.Machine.{rest_node}
-use Rattle.lk_law.specs.Phase.{has_node}
-use Rattle.lk_law.specs.Phase.Phase.{Seeks, Prepared}
-use Rattle.lk_law.specs.Snapshot.{Snapshot, Rewrites, NodesAgree, before}
-use Rattle.lk_law.specs.Agree.{SnapshotAgrees, Step, EntersSlowPath, halts, ParaAgrees}
-use Rattle.lk_law.proofs.common.Cases.{waiter_cases, lock_cases}
+use Rattle.lk_law.proofs.Names.{cases_eq, NodeName, LockHistory, LockName, Waiter, rest_node}
+use Rattle.lk_law.proofs.Names.{EntersSlowPath, ParaAgrees, SnapshotAgrees, Step, halts, has_node}
+use Rattle.lk_law.proofs.Names.{Prepared, Seeks, NodesAgree, Rewrites, Snapshot, before}
 use Rattle.lk_law.proofs.common.Before.{before_same, before_else, before_grow, before_top}
-use Rattle.lk_law.proofs.common.Before.{node_used}
-use Rattle.lk_law.proofs.spin.Hold.{hold_keep}
-use Rattle.lk_law.proofs.spin.Pend.{pend_still}
+use Rattle.lk_law.proofs.{common.Before.node_used, common.Cases.{waiter_cases, lock_cases}}
 use Rattle.lk_law.proofs.common.Frame.{queue_node, noded, agrees_after, no_posts}
-use Rattle.lk_law.proofs.spin.Laws.{SameNodes, lists_outside}
+use Rattle.lk_law.proofs.{spin.Hold.hold_keep, spin.Laws.{SameNodes, lists_outside}}
+use Rattle.lk_law.proofs.spin.Pend.{pend_still}
 
 -- the node that a waiter of this processor gets next
 abbrev pub next_node : Snapshot → Waiter → NodeName

@@ -1,60 +1,28 @@
 -- The rows before the queue in the slow path keep every sound world: the entry, the last looks, and
 -- the loop without a node.
-use Rattle.lk_law.specs.Pv.Post.{Off}
 use Rattle.std.proofs.Common.{◌≡◌, ◌≢◌, inl, inr, ℕ, Option, Some, None, true, false, arith, ap}
-use Rattle.std.proofs.Common.{◌+◌, refl, sym, ◌∙◌, subst, Bool}
-use Rattle.std.specs.Prelude.{if◌then◌else◌, nat_lt, is_some}
-use Rattle.std.proofs.lemmas.Bool.{ltb-true}
-use Rattle.lk_names.specs.Lawful.{IsOutside, TakesInOrder}
-use Rattle.lk_names.specs.History.{taken, with_holder}
-use Rattle.lk_names.specs.declared.holder.Manner.{Manner}
-use Rattle.lk_names.specs.declared.holder.Manner.TheVariants.{Spins}
-use Rattle.lk_names.specs.declared.names.Mode.{Mode}
-use Rattle.lk_names.specs.declared.names.Mode.TheVariants.{Virt, Native, Cna, Pv}
-use Rattle.lk_names.specs.declared.events.How.{How}
-use Rattle.lk_names.specs.declared.events.How.TheVariants as how
-use Rattle.lk_names.specs.declared.events.What.TheVariants.{Take}
-use Rattle.lk_word.specs.declared.spin_word.NodeName.{NodeName}
-use Rattle.lk_word.specs.declared.spin_word.Fields.{Fields}
-use Rattle.lk_rows.specs.declared.parts.Frame.{Frame}
-use Rattle.lk_rows.specs.declared.parts.Pc.{Pc}
-use Rattle.lk_rows.specs.declared.parts.Pc.TheVariants.{G1, G2, G3, G4, G5, G11, N1, N2}
-use Rattle.lk_rows.specs.Machine.{rest_node}
-use Rattle.lk_rows.specs.Moves.{node_of}
-use Rattle.lk_rows.specs.Row.{Nothing, Says, Enters, looks}
-use Rattle.lk_rows.specs.Row.{Leaves}
-use Rattle.lk_rows.specs.rows.Spin.{is_free, held_word}
-use Rattle.lk_rows.specs.rows.Queue.{takes_out, after_entry}
-use Rattle.lk_law.specs.Phase.{has_node, Phase, seeks, queues, pends}
-use Rattle.lk_law.specs.Phase.Phase.{Seeks, Prepared}
-use Rattle.lk_law.specs.Families.{chooses}
-use Rattle.lk_law.specs.Registers.{is_unaware, hands_plainly}
-use Rattle.lk_law.specs.World.{World}
-use Rattle.lk_law.specs.Places.{phase_of, phase_at}
-use Rattle.lk_law.specs.Families.{is_slow}
-use Rattle.lk_law.specs.Steps.{put_word, put_node, put_queued, led, lead_on}
-use Rattle.lk_law.specs.Registers.{RegistersFit}
-use Rattle.lk_law.specs.Places.{post_at}
-use Rattle.lk_law.specs.Families.{may_halt}
-use Rattle.lk_law.specs.Agree.{halts}
-use Rattle.lk_law.specs.SpinLaws.{SpinRowKeeps}
-use Rattle.lk_law.proofs.spin.Laws.{law_take}
-use Rattle.lk_law.proofs.queue.EntryLaws.{law_enter, law_enter_bare}
-use Rattle.lk_law.proofs.common.Allowed.{allow_take}
+use Rattle.std.proofs.Common.{◌+◌, refl, sym, ◌∙◌, subst, Bool, if◌then◌else◌, nat_lt, is_some}
+use Rattle.lk_law.proofs.Names.{ltb-true, Fields, NodeName, taken, with_holder, IsOutside}
+use Rattle.lk_law.proofs.Names.{TakesInOrder, How, Take, Manner, Spins, Mode, Cna, Native, Pv, Virt}
+use Rattle.lk_law.proofs.Names.{rest_node, node_of, Enters, Leaves, Nothing, Says, looks, Frame, Pc}
+use Rattle.lk_law.proofs.Names.{G1, G2, G3, G4, G5, G11, N1, N2, after_entry, takes_out, held_word}
+use Rattle.lk_law.proofs.Names.{is_free, halts, chooses, is_slow, may_halt, Phase, has_node, pends}
+use Rattle.lk_law.proofs.Names.{queues, seeks, Prepared, Seeks, phase_at, phase_of, post_at, Off}
+use Rattle.lk_law.proofs.Names.{RegistersFit, hands_plainly, is_unaware, SpinRowKeeps, lead_on, led}
+use Rattle.lk_law.proofs.Names.{put_node, put_queued, put_word, World}
+use Rattle.lk_law.proofs.common.Acting.{Acting, StandsAwake, Kept, KeepsIn, spin_row_keeps}
+use Rattle.lk_law.proofs.common.Acting.{phase_here, phase_shown, slow_here, held_not, ReadAlike}
+use Rattle.lk_law.proofs.common.Acting.{looks_kept, left_place, Ending, ending_step, ending_leaves}
+use Rattle.lk_law.proofs.common.Acting.{ends_kept, counted_off, awake_here, awake_post}
+use Rattle.lk_law.proofs.{common.Allowed.allow_take, common.Choices.fixed_choice}
 use Rattle.lk_law.proofs.common.Puts.{if_cases, put_word-here, put_number-here, put_number-else}
 use Rattle.lk_law.proofs.common.Puts.{put_rewrites}
-use Rattle.lk_law.proofs.common.Choices.{fixed_choice}
+use Rattle.lk_law.proofs.common.TurnSteps.{word_plain, node_plain, queued_plain, turn_step}
+use Rattle.lk_law.proofs.common.TurnSteps.{turn_enters, turn_own, turn_sound}
 use Rattle.lk_law.proofs.common.Turns.{Turn, word_turn, queued_turn}
-use Rattle.lk_law.proofs.common.TurnSteps.{word_plain}
-use Rattle.lk_law.proofs.common.TurnSteps.{node_plain, queued_plain, turn_step, turn_enters}
-use Rattle.lk_law.proofs.common.TurnSteps.{turn_own}
-use Rattle.lk_law.proofs.common.TurnSteps.{turn_sound}
-use Rattle.lk_law.proofs.common.Acting.{Acting, StandsAwake, Kept, KeepsIn, spin_row_keeps}
-use Rattle.lk_law.proofs.common.Acting.{phase_here}
-use Rattle.lk_law.proofs.common.Acting.{phase_shown, slow_here, held_not, ReadAlike, looks_kept}
-use Rattle.lk_law.proofs.common.Acting.{left_place, Ending, ending_step, ending_leaves, ends_kept}
-use Rattle.lk_law.proofs.common.Acting.{counted_off, awake_here, awake_post}
+use Rattle.lk_law.proofs.{queue.EntryLaws.{law_enter, law_enter_bare}, spin.Laws.law_take}
 use Rattle.lk_law.proofs.spin.RowsKeep.{WordKept, free_word}
+use Rattle.lk_names.specs.declared.events.How.TheVariants as how
 
 -- G1
 

@@ -1,51 +1,29 @@
 -- The rows of the front of the queue keep every sound world: G7 to G11.
-use Rattle.std.proofs.Common.{◌≡◌, ◌≢◌, inr, Option, Some, None, Bool, true, false, arith}
-use Rattle.std.proofs.Common.{ap, refl, sym, ◌∙◌, slice_get}
-use Rattle.std.specs.Prelude.{if◌then◌else◌, is_some, ◌&&◌, not}
-use Rattle.lk_names.specs.declared.holder.Manner.TheVariants.{Spins}
-use Rattle.lk_names.specs.declared.names.Mode.{Mode}
-use Rattle.lk_names.specs.declared.names.Mode.TheVariants.{Virt, Native, Cna, Pv}
-use Rattle.lk_names.specs.declared.names.Waiter.{Waiter}
-use Rattle.lk_names.specs.declared.events.What.TheVariants.{Take}
-use Rattle.lk_word.specs.declared.spin_word.NodeName.{NodeName}
-use Rattle.lk_word.specs.declared.spin_word.Locked.{Locked}
-use Rattle.lk_word.specs.declared.spin_word.Locked.TheVariants.{Free, Held, Slow}
-use Rattle.lk_word.specs.declared.spin_word.Fields.{Fields}
-use Rattle.lk_rows.specs.declared.parts.Node.{Node}
-use Rattle.lk_rows.specs.declared.parts.Frame.{Frame}
-use Rattle.lk_rows.specs.declared.parts.Pc.{Pc}
-use Rattle.lk_rows.specs.declared.parts.Pc.TheVariants.{G5, G7, G8, G9, G10, G11, C1}
-use Rattle.lk_rows.specs.Moves.{is_node, node_of}
-use Rattle.lk_rows.specs.Row.{Effect, Nothing, Says, Passes, looks, Leaves}
-use Rattle.lk_rows.specs.rows.Spin.{is_unlocked, held_word}
-use Rattle.lk_rows.specs.rows.Queue.{takes_out, after_look, is_sole, after_head, after_next}
-use Rattle.lk_law.specs.Phase.{seeks}
-use Rattle.lk_law.specs.Phase.Phase.{Leads, Stakes, Holds, Hands}
-use Rattle.lk_law.specs.Cna.{moves_aside}
-use Rattle.lk_law.specs.Stage.Stage.{Rests}
-use Rattle.lk_law.specs.Places.{phase_at, stage_at, kept_in, snapshot}
-use Rattle.lk_law.specs.Families.{is_slow}
-use Rattle.lk_law.specs.Registers.{ChoiceFits}
-use Rattle.lk_law.specs.Steps.{put_word, put_node, led, lead_on, stores_next}
-use Rattle.lk_law.specs.Agree.{halts}
-use Rattle.lk_law.specs.SpinLaws.{SpinRowKeeps}
-use Rattle.lk_law.specs.Premises.{Uses}
-use Rattle.lk_law.proofs.queue.Laws.{law_lead, law_head, law_know, law_pass, law_sole}
+use Rattle.std.proofs.Common.{◌≡◌, ◌≢◌, inr, Option, Some, None, Bool, true, false, arith, ap, refl}
+use Rattle.std.proofs.Common.{sym, ◌∙◌, slice_get, if◌then◌else◌, is_some, ◌&&◌, not}
+use Rattle.lk_law.proofs.Names.{Fields, Locked, Free, Held, Slow, NodeName, Take, Spins, Mode, Cna}
+use Rattle.lk_law.proofs.Names.{Native, Pv, Virt, Waiter, is_node, node_of, Effect, Leaves, Nothing}
+use Rattle.lk_law.proofs.Names.{Passes, Says, looks, Frame, Node, Pc, C1, G5, G7, G8, G9, G10, G11}
+use Rattle.lk_law.proofs.Names.{after_head, after_look, after_next, is_sole, takes_out, held_word}
+use Rattle.lk_law.proofs.Names.{is_unlocked, halts, moves_aside, is_slow, seeks, Hands, Holds}
+use Rattle.lk_law.proofs.Names.{Leads, Stakes, kept_in, phase_at, snapshot, stage_at, Uses}
+use Rattle.lk_law.proofs.Names.{ChoiceFits, SpinRowKeeps, Rests, lead_on, led, put_node, put_word}
+use Rattle.lk_law.proofs.Names.{stores_next}
+use Rattle.lk_law.proofs.common.Acting.{Acting, StandsAwake, Kept, spin_row_keeps, fit_here}
+use Rattle.lk_law.proofs.common.Acting.{phase_here, phase_shown, own_here, slow_here, held_not}
+use Rattle.lk_law.proofs.common.Acting.{looks_kept, left_place, Going, going_step, going_stays}
+use Rattle.lk_law.proofs.common.Acting.{goes_kept, Ending, ending_step, ending_leaves, ends_kept}
+use Rattle.lk_law.proofs.common.Acting.{counted_off, LeadsTo, placed_kept, look_going, awake_here}
 use Rattle.lk_law.proofs.common.Allowed.{allow_head, allow_sole, allow_pass, next_is}
-use Rattle.lk_law.proofs.common.Puts.{if_cases, put_word-here, put_rewrites}
-use Rattle.lk_law.proofs.common.Users.{is_node-true, used_noded, used_own}
 use Rattle.lk_law.proofs.common.Choices.{fixed_choice, first_choice}
+use Rattle.lk_law.proofs.common.Puts.{if_cases, put_word-here, put_rewrites}
 use Rattle.lk_law.proofs.common.TurnSteps.{turn_kept, turn_stage, word_plain, node_plain}
 use Rattle.lk_law.proofs.common.TurnSteps.{queued_plain}
 use Rattle.lk_law.proofs.common.Turns.{same_turn, word_turn, node_turn, queued_turn}
-use Rattle.lk_law.proofs.common.Acting.{Acting, StandsAwake, Kept, spin_row_keeps, fit_here}
-use Rattle.lk_law.proofs.common.Acting.{phase_here}
-use Rattle.lk_law.proofs.common.Acting.{phase_shown, own_here, slow_here, held_not, looks_kept}
-use Rattle.lk_law.proofs.common.Acting.{left_place, Going, going_step, going_stays, goes_kept}
-use Rattle.lk_law.proofs.common.Acting.{Ending, ending_step, ending_leaves, ends_kept, counted_off}
-use Rattle.lk_law.proofs.common.Acting.{LeadsTo, placed_kept, look_going, awake_here}
-use Rattle.lk_law.proofs.spin.RowsKeep.{WordKept, unlocked_free}
+use Rattle.lk_law.proofs.common.Users.{is_node-true, used_noded, used_own}
 use Rattle.lk_law.proofs.queue.ArriveRowsKeep.{alike_self, both-true, none_second, not_true}
+use Rattle.lk_law.proofs.queue.Laws.{law_lead, law_head, law_know, law_pass, law_sole}
+use Rattle.lk_law.proofs.spin.RowsKeep.{WordKept, unlocked_free}
 use Rattle.lk_names.specs.declared.events.How.TheVariants as how
 use Rattle.lk_rows.specs.declared.parts.Flag.TheVariants as flag
 

@@ -1,15 +1,9 @@
 use Rattle.std.proofs.Common.{◌≡◌, ◌≢◌, ℕ, zero, suc, Option, Some, None, true, false, List, []}
 use Rattle.std.proofs.Common.{◌∷◌, ◌++◌, length, ◌⊎◌, inl, inr, arith, ap, refl, sym, ◌∙◌, ◌+◌}
 use Rattle.std.proofs.Common.{slice_get, drop, take}
-use Rattle.lk_names.specs.declared.names.Waiter.{Waiter}
-use Rattle.lk_word.specs.declared.spin_word.NodeName.{NodeName}
-use Rattle.lk_rows.specs.declared.parts.Node.{Node}
-use Rattle.lk_rows.specs.declared.parts.Flag.TheVariants.{Unset}
-use Rattle.lk_law.specs.Phase.{Phase, queues, follows}
-use Rattle.lk_law.specs.Snapshot.{QueueAgrees}
-use Rattle.lk_rows.specs.Machine.{rest_node}
-use Rattle.lk_law.specs.Phase.Phase.{Prepared, Links, Waits, Hands, Holds}
-use Rattle.lk_names.proofs.ByIndex.{get_cases, get-drop_one, get-none_up, last_cases}
+use Rattle.lk_law.proofs.Names.{NodeName, get-drop_one, get-none_up, get_cases, last_cases, Waiter}
+use Rattle.lk_law.proofs.Names.{rest_node, Unset, Node, Phase, follows, queues, Hands, Holds, Links}
+use Rattle.lk_law.proofs.Names.{Prepared, Waits, QueueAgrees}
 use Rattle.lk_law.proofs.cna.Joined.{get-join, get-join_left, get-join_right, get-join_two}
 use Rattle.lk_law.proofs.cna.Joined.{get-join_last}
 

@@ -1,12 +1,7 @@
 -- The queue, where nothing changes that it reads.
 use Rattle.std.proofs.Common.{◌≡◌, suc, Option, true, List, arith}
-use Rattle.lk_names.specs.declared.names.Waiter.{Waiter}
-use Rattle.lk_word.specs.declared.spin_word.NodeName.{NodeName}
-use Rattle.lk_rows.specs.declared.parts.Node.{Node}
-use Rattle.lk_law.specs.Phase.{Phase, queues}
-use Rattle.lk_law.specs.Snapshot.{QueueAgrees}
-use Rattle.lk_rows.specs.Machine.{rest_node}
-use Rattle.lk_law.specs.Phase.Phase.{Prepared}
+use Rattle.lk_law.proofs.Names.{NodeName, Waiter, rest_node, Node, Phase, queues, Prepared}
+use Rattle.lk_law.proofs.Names.{QueueAgrees}
 
 -- nothing changes that the queue reads
 pub queue_keep : {tail : Option NodeName} {phase phase' : Waiter → Phase}

@@ -2,39 +2,23 @@
 -- hands the lead on.
 use Rattle.std.proofs.Common.{◌≡◌, ◌≢◌, ℕ, Option, Some, None, Bool, true, false, List, ◌⊎◌, inl}
 use Rattle.std.proofs.Common.{inr, arith, ap, refl, sym, ◌∙◌, [], ◌∷◌, ◌++◌}
-use Rattle.lk_names.specs.History.{LockHistory, told}
-use Rattle.lk_names.specs.declared.names.Waiter.{Waiter}
-use Rattle.lk_names.specs.declared.names.LockName.{LockName}
-use Rattle.lk_names.specs.declared.events.Event.{Event}
-use Rattle.lk_names.specs.declared.events.How.TheVariants.{Head, Sole}
-use Rattle.lk_names.specs.declared.events.What.TheVariants.{Take, Arrive, Pass}
-use Rattle.lk_word.specs.declared.spin_word.NodeName.{NodeName}
-use Rattle.lk_word.specs.declared.spin_word.Fields.{Fields}
-use Rattle.lk_word.specs.declared.spin_word.Locked.{Locked}
-use Rattle.lk_word.specs.declared.spin_word.Locked.TheVariants.{Free, Held}
-use Rattle.lk_rows.specs.declared.parts.Flag.{Flag}
-use Rattle.lk_rows.specs.declared.parts.Flag.TheVariants.{Go}
-use Rattle.lk_rows.specs.declared.parts.Node.{Node}
-use Rattle.lk_law.specs.Phase.{Phase, has_node, has_lock, pends, claims, watches, stakes, leads}
-use Rattle.lk_law.specs.Phase.Phase.{Idle, Releases, Prepared, Links, Waits, Leads, Stakes, Holds}
-use Rattle.lk_law.specs.Phase.Phase.{Hands}
-use Rattle.lk_law.specs.Stage.{Stage}
-use Rattle.lk_law.specs.Stage.Stage.{Rests}
-use Rattle.lk_law.specs.Cna.{ListsAgree, FlatAgrees, moves_aside, named_by}
-use Rattle.lk_law.specs.Snapshot.{Snapshot, Rewrites, PendingAgrees, NodesAgree}
-use Rattle.lk_law.specs.Agree.{SnapshotAgrees, Step, Stays, LeavesSlowPath, halts, ParaAgrees}
+use Rattle.lk_law.proofs.Names.{Fields, Locked, Free, Held, NodeName, LockHistory, told, Event}
+use Rattle.lk_law.proofs.Names.{Head, Arrive, Pass, Take, LockName, Waiter, Flag, Go, Node}
+use Rattle.lk_law.proofs.Names.{LeavesSlowPath, ParaAgrees, SnapshotAgrees, Stays, Step, halts}
+use Rattle.lk_law.proofs.Names.{FlatAgrees, ListsAgree, moves_aside, named_by, Phase, claims}
+use Rattle.lk_law.proofs.Names.{has_lock, has_node, leads, pends, stakes, watches, Hands, Holds}
+use Rattle.lk_law.proofs.Names.{Idle, Leads, Links, Prepared, Releases, Stakes, Waits, NodesAgree}
+use Rattle.lk_law.proofs.Names.{PendingAgrees, Rewrites, Snapshot, Stage, Rests}
+use Rattle.lk_names.specs.declared.events.How.TheVariants.{Sole}
+use Rattle.lk_law.proofs.{cna.Steps.ChoosesNothing, common.Before.nodes_apart}
 use Rattle.lk_law.proofs.common.Cases.{Apart, waiter_cases}
-use Rattle.lk_law.proofs.common.Before.{nodes_apart}
-use Rattle.lk_law.proofs.spin.Hold.{hold_keep, hold_take}
-use Rattle.lk_law.proofs.spin.Pend.{pend_keep, pend_still, pend_stake}
-use Rattle.lk_law.proofs.queue.Lead.{queue_lead, lead_first, second_is}
-use Rattle.lk_law.proofs.queue.Pass.{queue_pass}
 use Rattle.lk_law.proofs.common.Families.{lists_front, lists_met, lists_first, lists_behind}
 use Rattle.lk_law.proofs.common.Families.{lists_link, lists_lead, lists_sole}
 use Rattle.lk_law.proofs.common.Frame.{nodes_stay, nodes_leave, agrees_after, ActsAlone, no_posts}
 use Rattle.lk_law.proofs.common.Told.{told_lock, told_others, sole_taken}
-use Rattle.lk_law.proofs.spin.Laws.{SameNodes, claim_cases}
-use Rattle.lk_law.proofs.cna.Steps.{ChoosesNothing}
+use Rattle.lk_law.proofs.{queue.Lead.{queue_lead, lead_first, second_is}, queue.Pass.queue_pass}
+use Rattle.lk_law.proofs.{spin.Hold.{hold_keep, hold_take}, spin.Laws.{SameNodes, claim_cases}}
+use Rattle.lk_law.proofs.spin.Pend.{pend_keep, pend_still, pend_stake}
 
 -- each waiter's node is the one that it had
 pub own_is : {s s' : Snapshot} {w : Waiter} → Stays s s' w

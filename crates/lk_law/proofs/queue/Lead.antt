@@ -1,14 +1,9 @@
 -- The queue, where its front goes on; and what the front knows.
 use Rattle.std.proofs.Common.{◌≡◌, ◌≢◌, ℕ, zero, suc, Option, Some, true, List, ◌⊎◌, inl, inr}
 use Rattle.std.proofs.Common.{arith, slice_get, refl}
-use Rattle.lk_names.specs.declared.names.Waiter.{Waiter}
-use Rattle.lk_word.specs.declared.spin_word.NodeName.{NodeName}
-use Rattle.lk_rows.specs.declared.parts.Node.{Node}
-use Rattle.lk_law.specs.Phase.{Phase, queues, leads, follows}
-use Rattle.lk_law.specs.Snapshot.{Moves, QueueAgrees}
-use Rattle.lk_law.specs.Phase.Phase.{Links, Waits, Hands}
+use Rattle.lk_law.proofs.Names.{NodeName, get_cases, Waiter, Node, Phase, follows, leads, queues}
+use Rattle.lk_law.proofs.Names.{Hands, Links, Waits, Moves, QueueAgrees}
 use Rattle.lk_law.proofs.common.Cases.{waiter_cases}
-use Rattle.lk_names.proofs.ByIndex.{get_cases}
 
 -- who leads the queue is its first
 pub lead_first : {tail : Option NodeName} {phase : Waiter → Phase} {own : Waiter → NodeName}

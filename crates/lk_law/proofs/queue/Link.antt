@@ -1,14 +1,9 @@
 -- The queue, where a waiter links its node behind the one that it met.
 use Rattle.std.proofs.Common.{◌≡◌, ◌≢◌, ℕ, suc, Option, Some, None, true, List, inl, inr, arith}
 use Rattle.std.proofs.Common.{slice_get}
-use Rattle.lk_names.specs.declared.names.Waiter.{Waiter}
-use Rattle.lk_word.specs.declared.spin_word.NodeName.{NodeName}
-use Rattle.lk_rows.specs.declared.parts.Node.{Node}
-use Rattle.lk_rows.specs.declared.parts.Flag.TheVariants.{Unset}
-use Rattle.lk_law.specs.Phase.{Phase, queues, leads, follows, has_node}
-use Rattle.lk_law.specs.Snapshot.{Moves, Rewrites, QueueAgrees}
-use Rattle.lk_rows.specs.Machine.{rest_node}
-use Rattle.lk_law.specs.Phase.Phase.{Prepared, Links, Waits, Hands}
+use Rattle.lk_law.proofs.Names.{NodeName, Waiter, rest_node, Unset, Node, Phase, follows, has_node}
+use Rattle.lk_law.proofs.Names.{leads, queues, Hands, Links, Prepared, Waits, Moves, QueueAgrees}
+use Rattle.lk_law.proofs.Names.{Rewrites}
 use Rattle.lk_law.proofs.common.Cases.{Apart, waiter_cases, node_cases}
 
 -- a waiter links the node that it met to its own

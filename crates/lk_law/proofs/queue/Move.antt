@@ -1,13 +1,7 @@
 use Rattle.std.proofs.Common.{◌≡◌, ℕ, suc, Option, Some, None, true, false, List, inl, inr, arith}
 use Rattle.std.proofs.Common.{ap, sym, ◌∙◌, ◌≤◌, ◌+◌, ◌-◌, slice_get, drop}
-use Rattle.std.proofs.lemmas.Bool.{cases_lt}
-use Rattle.lk_names.specs.declared.names.Waiter.{Waiter}
-use Rattle.lk_word.specs.declared.spin_word.NodeName.{NodeName}
-use Rattle.lk_rows.specs.declared.parts.Node.{Node}
-use Rattle.lk_law.specs.Phase.{Phase, queues, leads}
-use Rattle.lk_law.specs.Snapshot.{QueueAgrees}
-use Rattle.lk_rows.specs.Machine.{rest_node}
-use Rattle.lk_law.specs.Phase.Phase.{Prepared, Waits, Hands}
+use Rattle.lk_law.proofs.Names.{cases_lt, NodeName, Waiter, rest_node, Node, Phase, leads, queues}
+use Rattle.lk_law.proofs.Names.{Hands, Prepared, Waits, QueueAgrees}
 use Rattle.lk_law.proofs.cna.Joined.{get-drop}
 
 -- The front leaves and the k waiters behind it go aside; v, behind them, leads.

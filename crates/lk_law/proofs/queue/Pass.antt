@@ -1,17 +1,10 @@
 -- The queue, where the front hands the lead to the second.
 use Rattle.std.proofs.Common.{◌≡◌, ◌≢◌, ℕ, zero, suc, Option, Some, None, true, List, inl, inr}
 use Rattle.std.proofs.Common.{arith, slice_get, drop}
-use Rattle.lk_names.specs.declared.names.Waiter.{Waiter}
-use Rattle.lk_word.specs.declared.spin_word.NodeName.{NodeName}
-use Rattle.lk_rows.specs.declared.parts.Node.{Node}
-use Rattle.lk_rows.specs.declared.parts.Flag.TheVariants.{Unset, Go}
-use Rattle.lk_law.specs.Phase.{Phase, queues, leads, follows, has_node}
-use Rattle.lk_law.specs.Snapshot.{Moves, Rewrites, QueueAgrees}
-use Rattle.lk_rows.specs.Machine.{rest_node}
-use Rattle.lk_law.specs.Phase.Phase.{Prepared, Links, Waits, Hands, Idle}
-use Rattle.lk_law.proofs.common.Cases.{Apart, waiter_cases, node_cases}
-use Rattle.lk_law.proofs.queue.Lead.{lead_first}
-use Rattle.lk_names.proofs.ByIndex.{get-drop_one}
+use Rattle.lk_law.proofs.Names.{NodeName, get-drop_one, Waiter, rest_node, Go, Unset, Node, Phase}
+use Rattle.lk_law.proofs.Names.{follows, has_node, leads, queues, Hands, Idle, Links, Prepared}
+use Rattle.lk_law.proofs.Names.{Waits, Moves, QueueAgrees, Rewrites}
+use Rattle.lk_law.proofs.{common.Cases.{Apart, waiter_cases, node_cases}, queue.Lead.lead_first}
 
 -- the head hands the lead to the second waiter, and leaves
 module _ {tail : Option NodeName} {phase phase' : Waiter → Phase} {own own' : Waiter → NodeName}

@@ -1,15 +1,9 @@
 -- The queue, where its only waiter leaves.
 use Rattle.std.proofs.Common.{◌≡◌, ◌≢◌, ℕ, zero, suc, Option, Some, None, true, List, [], length}
 use Rattle.std.proofs.Common.{◌⊎◌, inl, inr, arith, slice_get, drop, refl}
-use Rattle.lk_names.specs.declared.names.Waiter.{Waiter}
-use Rattle.lk_word.specs.declared.spin_word.NodeName.{NodeName}
-use Rattle.lk_rows.specs.declared.parts.Node.{Node}
-use Rattle.lk_law.specs.Phase.{Phase, queues, leads}
-use Rattle.lk_law.specs.Snapshot.{Moves, QueueAgrees}
-use Rattle.lk_law.specs.Phase.Phase.{Idle}
-use Rattle.lk_law.proofs.common.Cases.{Apart, waiter_cases}
-use Rattle.lk_law.proofs.queue.Lead.{lead_first}
-use Rattle.lk_names.proofs.ByIndex.{get-drop_one, get-none_up, last_cases}
+use Rattle.lk_law.proofs.Names.{NodeName, get-drop_one, get-none_up, last_cases, Waiter, Node}
+use Rattle.lk_law.proofs.Names.{Phase, leads, queues, Idle, Moves, QueueAgrees}
+use Rattle.lk_law.proofs.{common.Cases.{Apart, waiter_cases}, queue.Lead.lead_first}
 
 -- the only waiter of the queue leaves
 module _ {tail : Option NodeName} {phase phase' : Waiter → Phase} {own own' : Waiter → NodeName}

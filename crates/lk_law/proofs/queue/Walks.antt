@@ -1,23 +1,13 @@
 -- The main queue is the walk.
-use Rattle.lk_rows.specs.declared.parts.Flag.{Flag}
-use Rattle.lk_law.specs.Cna.{part, front_cut, first_node}
-use Rattle.lk_law.specs.Phase.Phase.{Waits}
-use Rattle.lk_law.proofs.common.Cases.{Apart}
-use Rattle.lk_law.proofs.cna.Parts.{part_cases, shown_flag}
-use Rattle.lk_law.proofs.common.Families.{lists_front}
 use Rattle.std.proofs.Common.{◌≡◌, ℕ, zero, suc, Option, Some, None, true, List, [], ◌∷◌, length}
 use Rattle.std.proofs.Common.{inl, inr, arith, ap, slice_get, refl, sym, ◌∙◌, ◌≤◌, map}
-use Rattle.lk_names.specs.declared.names.Waiter.{Waiter}
-use Rattle.lk_word.specs.declared.spin_word.NodeName.{NodeName}
-use Rattle.lk_rows.specs.declared.parts.Node.{Node}
-use Rattle.lk_law.specs.Phase.{Phase, has_node, queues, leads}
-use Rattle.lk_law.specs.Phase.Phase.{Links}
-use Rattle.lk_law.specs.Snapshot.{QueueAgrees}
-use Rattle.lk_law.specs.Walk.{walk, IsBehind, MainIsTheWalk, MainIsTheShownWalk, SecondIsTheWalk}
-use Rattle.lk_names.proofs.ByIndex.{get_cases, get-none_up}
+use Rattle.lk_law.proofs.Names.{NodeName, get-none_up, get_cases, Waiter, Flag, Node, first_node}
+use Rattle.lk_law.proofs.Names.{front_cut, part, Phase, has_node, leads, queues, Links, Waits}
+use Rattle.lk_law.proofs.Names.{QueueAgrees}
+use Rattle.lk_law.proofs.{cna.Parts.{part_cases, shown_flag}, common.Cases.Apart}
+use Rattle.lk_law.proofs.{common.Families.lists_front, common.Frame.queue_node, queue.Laws.apart_on}
 use Rattle.lk_law.proofs.queue.Lead.{follows_cases, lead_first}
-use Rattle.lk_law.proofs.queue.Laws.{apart_on}
-use Rattle.lk_law.proofs.common.Frame.{queue_node}
+use Rattle.lk_law.specs.Walk.{walk, IsBehind, MainIsTheWalk, MainIsTheShownWalk, SecondIsTheWalk}
 
 abbrev own_of : (Waiter → NodeName) → Option Waiter → Option NodeName
 own_of own None = None

@@ -1,42 +1,24 @@
 -- Where rows lead: none to a release, and but for the entry none gives a node.
-use Rattle.std.proofs.Common.{◌≡◌, ◌≢◌, ◌⊎◌, inl, inr, Option, Some, None, Bool, true, false}
-use Rattle.std.proofs.Common.{refl, sym, ap, subst, List, []}
-use Rattle.std.proofs.lemmas.Bool.{cases_Bool}
-use Rattle.std.specs.Prelude.{if◌then◌else◌, is_some, ◌&&◌, not, ◌-◌, ◌==◌}
-use Rattle.lk_names.specs.declared.names.Mode.{Mode}
-use Rattle.lk_names.specs.declared.names.Mode.TheVariants.{Virt, Native, Cna, Pv}
-use Rattle.lk_word.specs.declared.spin_word.NodeName.{NodeName}
-use Rattle.lk_word.specs.declared.spin_word.Fields.{Fields}
-use Rattle.lk_rows.specs.declared.parts.Flag.{Flag}
+use Rattle.std.proofs.Common.{◌≡◌, ◌≢◌, ◌⊎◌, inl, inr, Option, Some, None, Bool, true, false, refl}
+use Rattle.std.proofs.Common.{sym, ap, subst, List, [], if◌then◌else◌, is_some, ◌&&◌, not, ◌-◌}
+use Rattle.std.proofs.Common.{◌==◌}
+use Rattle.lk_law.proofs.Names.{cases_Bool, Fields, NodeName, Mode, Cna, Native, Pv, Virt, Waiter}
+use Rattle.lk_law.proofs.Names.{is_node, node_of, Effect, Goes, Granted, Lead, Leaves, Missed}
+use Rattle.lk_law.proofs.Names.{target, Flag, Frame, Pc, C1, C2, C3, C4, C5, C6, C7, C8, C9, C10}
+use Rattle.lk_law.proofs.Names.{E1, E2, E3, E4, E5, E6, E7, E8, E9, E10, E11, E12, E13, E14, E15}
+use Rattle.lk_law.proofs.Names.{F1, G1, G2, G3, G4, G5, G6, G7, G8, G9, G10, G11, H1, H2, K1, K2}
+use Rattle.lk_law.proofs.Names.{K3, N1, N2, P0, P1, P2, P3, P4, T1, T2, U1, U2, U3, U4, U5, V1, V2}
+use Rattle.lk_law.proofs.Names.{W1, W2, W3, W4, W5, W6, W7, Why, Sight, after_none, after_tail}
+use Rattle.lk_law.proofs.Names.{is_held, is_last, may_stay, search_first, search_on, is_halted}
+use Rattle.lk_law.proofs.Names.{is_running, is_set, pv_after_next, after_arrival, after_entry}
+use Rattle.lk_law.proofs.Names.{after_flag, after_head, after_link, after_look, after_next, is_sole}
+use Rattle.lk_law.proofs.Names.{after_fast, is_free, is_unlocked, to_queue, is_rw_row, may_halt}
+use Rattle.lk_law.proofs.Names.{course_in, IsThen, led, sight_in, World}
+use Rattle.lk_rows.specs.{Row.Change, rows.Queue.own_node, rows.Spin.after_pending}
+use Rattle.lk_law.specs.Families.{is_ending_row}
+use Rattle.lk_law.specs.Leads.{is_release, enters, RowIsCalm, NodeComesAtEntry}
 use Rattle.lk_rows.specs.declared.parts.Flag.TheVariants as flag
-use Rattle.lk_rows.specs.declared.parts.Frame.{Frame}
-use Rattle.lk_rows.specs.declared.parts.Why.{Why}
 use Rattle.lk_rows.specs.declared.parts.Why.TheVariants as why
-use Rattle.lk_rows.specs.declared.parts.Pc.{Pc}
-use Rattle.lk_rows.specs.declared.parts.Pc.TheVariants.{F1, T1, T2, U1, V1, V2, P0, P1, P2, P3}
-use Rattle.lk_rows.specs.declared.parts.Pc.TheVariants.{P4, G1, G2, G3, G4, G5, G6, G7, G8, G9}
-use Rattle.lk_rows.specs.declared.parts.Pc.TheVariants.{G10, G11, N1, N2, C1, C2, C3, C4, C5, C6}
-use Rattle.lk_rows.specs.declared.parts.Pc.TheVariants.{C7, C8, C9, C10, H1, H2, W1, W2, W3, W4}
-use Rattle.lk_rows.specs.declared.parts.Pc.TheVariants.{W5, W6, W7, E1, E2, E3, E4, E5, E6, E7}
-use Rattle.lk_rows.specs.declared.parts.Pc.TheVariants.{E8, E9, E10, E11, E12, E13, E14, E15, K1}
-use Rattle.lk_rows.specs.declared.parts.Pc.TheVariants.{K2, K3, U2, U3, U4, U5}
-use Rattle.lk_rows.specs.Moves.{is_node, node_of}
-use Rattle.lk_rows.specs.Row.{Effect, Lead, Goes, Granted, Missed, Leaves, Change}
-use Rattle.lk_rows.specs.rows.Spin.{is_free, is_unlocked, to_queue, after_fast}
-use Rattle.lk_rows.specs.rows.Spin.{after_pending}
-use Rattle.lk_rows.specs.rows.Queue.{is_sole, own_node}
-use Rattle.lk_rows.specs.rows.Queue.{after_entry, after_look, after_arrival, after_head}
-use Rattle.lk_rows.specs.rows.Queue.{after_flag, after_next, after_link}
-use Rattle.lk_rows.specs.rows.Cna.{Sight, is_last, may_stay, after_none, after_tail}
-use Rattle.lk_rows.specs.rows.Cna.{search_first, search_on, is_held}
-use Rattle.lk_rows.specs.rows.Pv.{pv_after_next, is_set, is_running, is_halted}
-use Rattle.lk_rows.specs.TopRow.{target}
-use Rattle.lk_law.specs.Families.{is_ending_row, may_halt, is_rw_row}
-use Rattle.lk_law.specs.Leads.{course_in, is_release, enters, RowIsCalm, NodeComesAtEntry}
-use Rattle.lk_law.specs.Premises.{IsThen}
-use Rattle.lk_law.specs.Steps.{led, sight_in}
-use Rattle.lk_law.specs.World.{World}
-use Rattle.lk_names.specs.declared.names.Waiter.{Waiter}
 
 -- A lead is mild: the frame does not come to a release by it, and gets no node.
 record Mild (f : Frame) (lead : Lead) : Type 0 where

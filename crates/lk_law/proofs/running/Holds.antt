@@ -1,30 +1,16 @@
 -- How a spinlock is held: by one waiter at most, and from one context to another.
-use Rattle.std.proofs.Common.{◌≡◌, ◌≢◌, inl, inr, ℕ, Option, Some, None, Bool, true, false}
-use Rattle.std.proofs.Common.{arith, ap, refl, sym, ◌∙◌, subst}
-use Rattle.std.specs.Prelude.{if◌then◌else◌, ◌&&◌}
-use Rattle.lk_names.specs.Names.{same_lock, same_waiter}
-use Rattle.lk_names.specs.History.{LockHistory, no_history}
-use Rattle.lk_names.specs.declared.holder.Manner.{Manner}
-use Rattle.lk_names.specs.declared.holder.Manner.TheVariants.{Spins}
-use Rattle.lk_names.specs.declared.names.Kind.{Kind}
-use Rattle.lk_names.specs.declared.names.Kind.TheVariants.{Spin, Rw}
-use Rattle.lk_names.specs.declared.names.Waiter.{Waiter}
-use Rattle.lk_names.specs.declared.names.LockName.{LockName}
-use Rattle.lk_rows.specs.Moves.{rw_name, wait_name}
-use Rattle.lk_law.specs.Agree.{LockAgrees, sole}
-use Rattle.lk_law.specs.Holds.{HolderIsOne, HoldMoves, hands_hold, held_by}
-use Rattle.lk_law.specs.Phase.{Phase, has_lock}
-use Rattle.lk_law.specs.Phase.Phase.{Idle}
-use Rattle.lk_law.specs.Places.{snapshot}
-use Rattle.lk_law.specs.RwAgree.{RwAgrees}
-use Rattle.lk_law.specs.Snapshot.{Snapshot, HolderAgrees, spins}
-use Rattle.lk_law.specs.SpinWorld.{IsSoundSpinWorld}
-use Rattle.lk_law.specs.SoundWorld.{spin_part, is_rw, is_rw_name, rw_phases, rw_helds}
-use Rattle.lk_law.specs.SoundWorld.{rw_waits}
-use Rattle.lk_law.specs.World.{World}
+use Rattle.std.proofs.Common.{◌≡◌, ◌≢◌, inl, inr, ℕ, Option, Some, None, Bool, true, false, arith}
+use Rattle.std.proofs.Common.{ap, refl, sym, ◌∙◌, subst, if◌then◌else◌, ◌&&◌}
+use Rattle.lk_law.proofs.Names.{LockHistory, no_history, same_lock, same_waiter, Manner, Spins}
+use Rattle.lk_law.proofs.Names.{Kind, Rw, LockName, Waiter, rw_name, wait_name, LockAgrees, sole}
+use Rattle.lk_law.proofs.Names.{Phase, has_lock, Idle, snapshot, RwAgrees, HolderAgrees, Snapshot}
+use Rattle.lk_law.proofs.Names.{spins, is_rw_name, rw_helds, rw_phases, rw_waits, spin_part}
+use Rattle.lk_law.proofs.Names.{IsSoundSpinWorld, World}
+use Rattle.lk_names.specs.declared.names.Kind.TheVariants.{Spin}
 use Rattle.lk_law.proofs.common.Cases.{waiter_cases, lock_cases}
 use Rattle.lk_law.proofs.common.Puts.{if-true, if-false, same_lock-else, same_waiter-else}
 use Rattle.lk_law.proofs.common.Sames.{same_lock-self, same_waiter-self}
+use Rattle.lk_law.specs.{Holds.{HolderIsOne, HoldMoves, hands_hold, held_by}, SoundWorld.is_rw}
 
 holding : (r : Phase) (h : Bool) → h ≡ true → has_lock r h ≡ true
 holding r h e = grind arith

@@ -1,34 +1,21 @@
 -- A row is its store, and then its course.
-use Rattle.std.proofs.Common.{◌≡◌, ◌≢◌, ℕ, Option, Some, None, Bool, false, ap, ◌-◌, refl}
-use Rattle.std.proofs.Common.{sym, ◌∙◌, subst}
-use Rattle.std.specs.Prelude.{if◌then◌else◌, ◌&&◌}
-use Rattle.lk_names.specs.Names.{same_lock, same_waiter}
-use Rattle.lk_names.specs.declared.holder.Manner.{Manner}
-use Rattle.lk_names.specs.declared.names.Waiter.{Waiter}
-use Rattle.lk_names.specs.declared.names.LockName.{LockName}
-use Rattle.lk_word.specs.declared.spin_word.NodeName.{NodeName}
-use Rattle.lk_word.specs.declared.spin_word.Fields.{Fields}
-use Rattle.lk_word.specs.declared.rw_word.RwFields.{RwFields}
-use Rattle.lk_rows.specs.declared.parts.Flag.{Flag}
-use Rattle.lk_rows.specs.declared.parts.State.{State}
-use Rattle.lk_rows.specs.declared.parts.Frame.{Frame}
-use Rattle.lk_rows.specs.declared.parts.Pc.{Pc}
-use Rattle.lk_rows.specs.Moves.{rw_name}
-use Rattle.lk_rows.specs.Row.{Lead, Goes, Enters, Granted, Freed, Missed, Done, TakesWait, Leaves}
-use Rattle.lk_rows.specs.Row.{Yields}
-use Rattle.lk_rows.specs.rows.Queue.{entry_row}
-use Rattle.lk_rows.specs.rows.Rw.{rw_row}
+use Rattle.std.proofs.Common.{◌≡◌, ◌≢◌, ℕ, Option, Some, None, Bool, false, ap, ◌-◌, refl, sym, ◌∙◌}
+use Rattle.std.proofs.Common.{subst, if◌then◌else◌, ◌&&◌}
+use Rattle.lk_law.proofs.Names.{RwFields, Fields, NodeName, same_lock, same_waiter, Manner}
+use Rattle.lk_law.proofs.Names.{LockName, Waiter, rw_name, Done, Enters, Freed, Goes, Granted, Lead}
+use Rattle.lk_law.proofs.Names.{Leaves, Missed, TakesWait, Yields, Flag, Frame, Pc, State}
+use Rattle.lk_law.proofs.Names.{entry_row, course_in, Made, lead_on, led, put_frame, put_held}
+use Rattle.lk_law.proofs.Names.{stores_entry, stores_flag, stores_halted, stores_kicked}
+use Rattle.lk_law.proofs.Names.{stores_next, stores_queued, stores_runs, stores_second}
+use Rattle.lk_law.proofs.Names.{stores_state, stores_word, way_led, World}
 use Rattle.lk_rows.specs.TopRow.{Target, SpinWord, QueueWord, Queued, FlagOf, NextOf, ChoiceWord}
 use Rattle.lk_rows.specs.TopRow.{ChoiceFlag, ChoiceNext, SecondTailOf, RunsOf, PvWord, PvFlag}
 use Rattle.lk_rows.specs.TopRow.{PvNext, StateOf, HashEntry, Halted, KickOf, RwWord}
-use Rattle.lk_law.specs.Leads.{Course, course_in, course_on, stored_in, enters, held_lock, way_after}
-use Rattle.lk_law.specs.Leads.{RowIsLed, RowIsDone, RowDone}
-use Rattle.lk_law.specs.Steps.{Made, put_frame, put_held, led, led_rest, lead_on, way_led, way_told}
-use Rattle.lk_law.specs.Steps.{row_in_at, stores_word, stores_rw, stores_flag, stores_next}
-use Rattle.lk_law.specs.Steps.{stores_second, stores_runs, stores_state, stores_entry}
-use Rattle.lk_law.specs.Steps.{stores_halted, stores_kicked, stores_queued}
-use Rattle.lk_law.specs.World.{World}
+use Rattle.lk_rows.specs.rows.Rw.{rw_row}
 use Rattle.lk_law.proofs.common.Puts.{put_number-else}
+use Rattle.lk_law.specs.Leads.{Course, course_on, stored_in, enters, held_lock, way_after, RowIsLed}
+use Rattle.lk_law.specs.Leads.{RowIsDone, RowDone}
+use Rattle.lk_law.specs.Steps.{led_rest, way_told, row_in_at, stores_rw}
 
 -- what a store leaves alone
 record SameFrames (m x : World) : Type 0 where

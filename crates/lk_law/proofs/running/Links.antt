@@ -1,45 +1,23 @@
 -- Which nodes links name: each link of a used node names a used one; and so is the first of those that
 -- a front will link behind the second queue.
-use Rattle.std.proofs.Common.{◌≡◌, ◌≢◌, ◌⊎◌, ℕ, suc, Option, Some, None, Bool, true, false, List, inl, inr}
-use Rattle.std.proofs.Common.{ap, refl, sym, ◌∙◌, subst, arith, slice_get}
-use Rattle.std.proofs.lemmas.Bool.{cases_Bool}
-use Rattle.std.specs.Prelude.{is_some}
-use Rattle.lk_names.specs.History.{LockHistory}
-use Rattle.lk_names.specs.declared.names.LockName.{LockName}
-use Rattle.lk_names.specs.declared.names.Waiter.{Waiter}
-use Rattle.lk_word.specs.declared.spin_word.NodeName.{NodeName}
-use Rattle.lk_rows.specs.declared.parts.Frame.{Frame}
-use Rattle.lk_rows.specs.declared.parts.Node.{Node}
-use Rattle.lk_rows.specs.declared.parts.Pc.{Pc}
-use Rattle.lk_rows.specs.declared.parts.Pc.TheVariants.{C2, C3, C4, C9}
-use Rattle.lk_rows.specs.declared.parts.Why.{Why}
-use Rattle.lk_rows.specs.declared.parts.Why.TheVariants as why
-use Rattle.lk_rows.specs.Moves.{node_of}
-use Rattle.lk_law.specs.Agree.{halts}
-use Rattle.lk_law.specs.Cna.{part, CnaAgrees, FlatAgrees, moves_aside, shown, front_cut, front_tip}
-use Rattle.lk_law.specs.Families.{may_halt}
-use Rattle.lk_law.specs.Known.{IsOwnNode}
-use Rattle.lk_law.specs.Nodes.{LinkedIsUsed, PassedIsUsed, will_link}
-use Rattle.lk_law.specs.Phase.{Phase, has_node, queues}
-use Rattle.lk_law.specs.Phase.Phase.{Prepared}
-use Rattle.lk_law.specs.Places.{snapshot, phase_at, phase_if, phase_of, phase_on, own_in, stage_at, stage_if}
-use Rattle.lk_law.specs.Places.{stage_of, stage_on}
-use Rattle.lk_law.specs.Premises.{Uses}
-use Rattle.lk_law.specs.Snapshot.{Snapshot}
-use Rattle.lk_law.specs.SpinWorld.{IsSoundSpinWorld}
-use Rattle.lk_law.specs.Stage.{Stage, cut_of, tip_of, parted, picks, passed_over, before_of}
-use Rattle.lk_law.specs.Stage.Stage.{Rests, Skips, Meets, Tips, Ties, Cuts, Hangs, Counts, Picks, Picked}
-use Rattle.lk_law.specs.Stage.Stage.{Flushes, Flushing, Promotes, Promoting}
-use Rattle.lk_law.specs.World.{World}
-use Rattle.lk_law.proofs.cna.Knows.{lists, at_front, stage_here}
-use Rattle.lk_law.proofs.cna.Look.{next_at}
-use Rattle.lk_law.proofs.cna.Parts.{part_cases, part_out, shown_else}
-use Rattle.lk_law.proofs.common.Cases.{node_cases}
-use Rattle.lk_law.proofs.common.Families.{Last, lists_rest}
-use Rattle.lk_names.proofs.ByIndex.{get_cases}
-use Rattle.lk_law.proofs.common.Puts.{not-true}
+use Rattle.std.proofs.Common.{◌≡◌, ◌≢◌, ◌⊎◌, ℕ, suc, Option, Some, None, Bool, true, false, List}
+use Rattle.std.proofs.Common.{inl, inr, ap, refl, sym, ◌∙◌, subst, arith, slice_get, is_some}
+use Rattle.lk_law.proofs.Names.{cases_Bool, NodeName, get_cases, LockHistory, LockName, Waiter}
+use Rattle.lk_law.proofs.Names.{node_of, Frame, Node, Pc, C2, C3, C4, C9, Why, halts, CnaAgrees}
+use Rattle.lk_law.proofs.Names.{FlatAgrees, front_cut, front_tip, moves_aside, part, shown}
+use Rattle.lk_law.proofs.Names.{may_halt, IsOwnNode, Phase, has_node, queues, Prepared}
+use Rattle.lk_law.proofs.Names.{phase_at, phase_if, phase_of, phase_on, snapshot}
+use Rattle.lk_law.proofs.Names.{Uses, Snapshot, IsSoundSpinWorld}
+use Rattle.lk_law.proofs.Names.{Stage, cut_of, parted, passed_over, picks, tip_of, Counts, Cuts}
+use Rattle.lk_law.proofs.Names.{Flushes, Flushing, Hangs, Meets, Picked, Picks, Promotes, Promoting}
+use Rattle.lk_law.proofs.Names.{Rests, Skips, Ties, Tips, World}
+use Rattle.lk_law.proofs.{cna.Knows.{lists, at_front, stage_here}, cna.Look.next_at}
+use Rattle.lk_law.proofs.{cna.Parts.{part_cases, part_out, shown_else}, common.Cases.node_cases}
+use Rattle.lk_law.proofs.{common.Families.{Last, lists_rest}, common.Puts.not-true}
 use Rattle.lk_law.proofs.common.Users.{user_of, own_node, used_noded, used_own}
 use Rattle.lk_law.proofs.common.Worlds.{phase_on-here}
+use Rattle.lk_law.specs.{Nodes.{LinkedIsUsed, PassedIsUsed, will_link}, Stage.before_of}
+use Rattle.lk_rows.specs.declared.parts.Why.TheVariants as why
 
 -- the link that the queue has in place of that in a node: of the last of those that are cut off, or
 -- of a front that has chosen the next

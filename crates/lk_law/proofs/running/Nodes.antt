@@ -1,41 +1,21 @@
 -- What is stored into a node that nobody uses; and which nodes are used.
-use Rattle.std.proofs.Common.{◌≡◌, ◌≢◌, inl, inr, Option, Some, true, false}
-use Rattle.std.proofs.Common.{arith, ap, refl, sym, ◌∙◌, subst, slice_get}
-use Rattle.std.specs.Prelude.{is_some, ◌≤◌}
-use Rattle.std.proofs.lemmas.Bool.{cases_lt}
-use Rattle.lk_names.specs.History.{LockHistory}
-use Rattle.lk_names.specs.declared.names.Waiter.{Waiter}
-use Rattle.lk_names.specs.declared.names.LockName.{LockName}
-use Rattle.lk_word.specs.declared.spin_word.NodeName.{NodeName}
-use Rattle.lk_rows.specs.declared.parts.Flag.TheVariants.{Second}
-use Rattle.lk_rows.specs.declared.parts.Node.{Node}
-use Rattle.lk_rows.specs.declared.parts.Frame.{Frame}
-use Rattle.lk_rows.specs.declared.parts.Pc.{Pc}
-use Rattle.lk_rows.specs.declared.parts.Pc.TheVariants.{G10, E14}
-use Rattle.lk_rows.specs.Moves.{node_of}
-use Rattle.lk_law.specs.Agree.{LockAgrees, Owed, node_state}
-use Rattle.lk_law.specs.Known.{IsOwnNode}
-use Rattle.lk_law.specs.Nodes.{IsFree, IsPlainNode, FreeNodeKeeps, FreshIsFree}
-use Rattle.lk_law.specs.Nodes.{PrevIsUsed, LinkIsUsed}
-use Rattle.lk_law.specs.Halting.{HaltingLinkIsUsed}
-use Rattle.lk_law.specs.Phase.{Phase, has_node, queues}
-use Rattle.lk_law.specs.Phase.Phase.{Prepared}
-use Rattle.lk_law.specs.Places.{snapshot, phase_if, phase_on, slow_in, own_in}
-use Rattle.lk_law.specs.Premises.{Uses}
-use Rattle.lk_law.specs.Snapshot.{Snapshot, before, same_node}
-use Rattle.lk_law.specs.SpinWorld.{IsSoundSpinWorld}
-use Rattle.lk_law.specs.SoundWorld.{spin_part}
-use Rattle.lk_law.specs.Steps.{put_node}
-use Rattle.lk_law.specs.World.{World}
+use Rattle.std.proofs.Common.{◌≡◌, ◌≢◌, inl, inr, Option, Some, true, false, arith, ap, refl, sym}
+use Rattle.std.proofs.Common.{◌∙◌, subst, slice_get, is_some, ◌≤◌}
+use Rattle.lk_law.proofs.Names.{cases_lt, NodeName, LockHistory, LockName, Waiter, node_of, Second}
+use Rattle.lk_law.proofs.Names.{Frame, Node, Pc, E14, G10, LockAgrees, Owed, node_state, IsOwnNode}
+use Rattle.lk_law.proofs.Names.{Phase, has_node, queues, Prepared, own_in, phase_if, phase_on}
+use Rattle.lk_law.proofs.Names.{slow_in, snapshot, Uses, Snapshot, before, same_node, spin_part}
+use Rattle.lk_law.proofs.Names.{IsSoundSpinWorld, put_node, World}
 use Rattle.lk_law.proofs.common.Before.{before_lt, nodes_apart}
-use Rattle.lk_law.proofs.common.Families.{lists_keep, lists_rest, lists_met, lists_front, lists_main}
-use Rattle.lk_law.proofs.pv.Keep.{pv_keep, agrees-noded}
-use Rattle.lk_law.proofs.pv.Laws.{halts_flat}
-use Rattle.lk_law.proofs.common.Frame.{queue_node}
+use Rattle.lk_law.proofs.common.Families.{lists_keep, lists_rest, lists_met, lists_front}
+use Rattle.lk_law.proofs.{common.Families.lists_main, common.Frame.queue_node}
 use Rattle.lk_law.proofs.common.Puts.{if-false, if_cases, same_node-else}
 use Rattle.lk_law.proofs.common.Users.{user_of, own_node, used_noded, used_own}
-use Rattle.lk_law.proofs.common.Worlds.{phase_on-here}
-use Rattle.lk_law.proofs.queue.Lead.{second_is}
+use Rattle.lk_law.proofs.{common.Worlds.phase_on-here, pv.Keep.{pv_keep, agrees-noded}}
+use Rattle.lk_law.proofs.{pv.Laws.halts_flat, queue.Lead.second_is}
+use Rattle.lk_law.specs.Halting.{HaltingLinkIsUsed}
+use Rattle.lk_law.specs.Nodes.{IsFree, IsPlainNode, FreeNodeKeeps, FreshIsFree, PrevIsUsed}
+use Rattle.lk_law.specs.Nodes.{LinkIsUsed}
 
 prepared_node : (r : Phase) → r ≡ Prepared → has_node r ≡ true
 prepared_node r h = grind arith

@@ -1,31 +1,19 @@
 -- A hold of a reader-writer lock goes from one context to another.
-use Rattle.std.proofs.Common.{◌≡◌, ◌≢◌, ◌⊎◌, inl, inr, ℕ, ◌+◌, ◌-◌, Option, Some, None, Bool, true, false}
-use Rattle.std.proofs.Common.{List, [], ◌∷◌, ◌++◌, arith, ap, refl, sym, ◌∙◌, subst}
-use Rattle.std.proofs.lemmas.Bool.{cases_eq, cases_Bool}
-use Rattle.std.specs.Prelude.{if◌then◌else◌, ◌&&◌}
-use Rattle.lk_names.specs.Names.{same_lock, same_waiter}
-use Rattle.lk_names.specs.History.{LockHistory, no_history, without}
-use Rattle.lk_names.specs.declared.holder.Holder.{Holder}
-use Rattle.lk_names.specs.declared.holder.Manner.{Manner}
-use Rattle.lk_names.specs.declared.holder.Manner.TheVariants.{Spins, Reads, Writes}
-use Rattle.lk_names.specs.declared.names.Kind.TheVariants.{Rw}
-use Rattle.lk_names.specs.declared.names.Waiter.{Waiter}
-use Rattle.lk_names.specs.declared.names.LockName.{LockName}
-use Rattle.lk_rows.specs.Moves.{rw_name, wait_name}
-use Rattle.lk_law.specs.Holds.{ShareMoves, hands_share, shared_by}
-use Rattle.lk_law.specs.RwAgree.{RwAgrees, RwStep, ReadersAgree, HoldsAgree}
-use Rattle.lk_law.specs.RwPhase.{RwPhase, rests, is_inner, is_counted}
-use Rattle.lk_law.specs.RwPhase.RwPhase.{Away, Asks, Biases, Inside, Joins, Announces, Frees}
-use Rattle.lk_law.specs.RwPhase.RwPhase.{Unreads, Unwrites}
-use Rattle.lk_law.specs.Snapshot.{spins}
-use Rattle.lk_law.specs.SpinWorld.{IsSoundSpinWorld}
-use Rattle.lk_law.specs.SoundWorld.{IsSoundWorld, spin_part, is_rw, is_rw_name, rw_phases, rw_helds, rw_waits}
-use Rattle.lk_law.specs.Steps.{put_held}
-use Rattle.lk_law.specs.World.{World}
+use Rattle.std.proofs.Common.{◌≡◌, ◌≢◌, ◌⊎◌, inl, inr, ℕ, ◌+◌, ◌-◌, Option, Some, None, Bool, true}
+use Rattle.std.proofs.Common.{false, List, [], ◌∷◌, ◌++◌, arith, ap, refl, sym, ◌∙◌, subst}
+use Rattle.std.proofs.Common.{if◌then◌else◌, ◌&&◌}
+use Rattle.lk_law.proofs.Names.{cases_Bool, cases_eq, LockHistory, no_history, without, same_lock}
+use Rattle.lk_law.proofs.Names.{same_waiter, Holder, Manner, Reads, Spins, Writes, Rw, LockName}
+use Rattle.lk_law.proofs.Names.{Waiter, rw_name, wait_name, HoldsAgree, RwAgrees, RwStep, RwPhase}
+use Rattle.lk_law.proofs.Names.{is_counted, is_inner, rests, Announces, Asks, Away, Frees, Inside}
+use Rattle.lk_law.proofs.Names.{Unreads, Unwrites, spins, IsSoundWorld, is_rw_name, rw_helds}
+use Rattle.lk_law.proofs.Names.{rw_phases, rw_waits, spin_part, IsSoundSpinWorld, put_held, World}
 use Rattle.lk_law.proofs.common.Cases.{waiter_cases, lock_cases}
 use Rattle.lk_law.proofs.common.Puts.{if-true, if-false, same_lock-else, same_waiter-else}
 use Rattle.lk_law.proofs.common.Sames.{same_lock-self, same_waiter-self}
 use Rattle.lk_law.proofs.rw.Each.{each_nobody, without_first}
+use Rattle.lk_law.specs.{Holds.{ShareMoves, hands_share, shared_by}, RwAgree.ReadersAgree}
+use Rattle.lk_law.specs.{RwPhase.RwPhase.{Biases, Joins}, SoundWorld.is_rw}
 use Rattle.lk_law.proofs.rw.Hold as hold
 
 -- one waiter's hold of one lock changes

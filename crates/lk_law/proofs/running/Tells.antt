@@ -1,37 +1,19 @@
 -- Where a row hands the lead on, some waiter uses the node that it names.
-use Rattle.std.proofs.Common.{◌≡◌, Option, Some, None, Bool, true, false, refl, sym, ap}
-use Rattle.std.proofs.Common.{subst}
-use Rattle.std.specs.Prelude.{if◌then◌else◌, is_some, ◌-◌, ◌==◌, ◌&&◌}
-use Rattle.lk_names.specs.History.{LockHistory}
-use Rattle.lk_names.specs.declared.names.Waiter.{Waiter}
-use Rattle.lk_names.specs.declared.names.LockName.{LockName}
-use Rattle.lk_word.specs.declared.spin_word.NodeName.{NodeName}
-use Rattle.lk_rows.specs.declared.parts.Flag.{Flag}
-use Rattle.lk_rows.specs.declared.parts.Flag.TheVariants as flag
-use Rattle.lk_rows.specs.declared.parts.Frame.{Frame}
-use Rattle.lk_rows.specs.declared.parts.Pc.{Pc}
-use Rattle.lk_rows.specs.declared.parts.Pc.TheVariants.{F1, T1, T2, V2, G3, G6, G8, G11, N2}
-use Rattle.lk_rows.specs.declared.parts.Pc.TheVariants.{C1, C2, C8, C10, R1, R2, R5, Wr1, Wr3}
-use Rattle.lk_rows.specs.declared.parts.Pc.TheVariants.{Wr6, Y1, Y2, Y4, Y5, H2, W2, W4, W7}
-use Rattle.lk_rows.specs.declared.parts.Pc.TheVariants.{E4, E7, E13, E15, K1, U2}
-use Rattle.lk_rows.specs.Row.{Effect, Tell, Nothing, Says, Passes}
-use Rattle.lk_rows.specs.rows.Spin.{is_free, is_unlocked}
-use Rattle.lk_rows.specs.rows.Queue.{after_flag, is_sole}
-use Rattle.lk_rows.specs.rows.Cna.{Sight, after_none, is_last, may_stay, search_first, search_on}
-use Rattle.lk_rows.specs.rows.Cna.{is_held}
-use Rattle.lk_rows.specs.rows.Pv.{is_set, is_running, is_halted}
+use Rattle.std.proofs.Common.{◌≡◌, Option, Some, None, Bool, true, false, refl, sym, ap, subst}
+use Rattle.std.proofs.Common.{if◌then◌else◌, is_some, ◌-◌, ◌==◌, ◌&&◌}
+use Rattle.lk_law.proofs.Names.{NodeName, LockHistory, LockName, Waiter, node_of, Effect, Nothing}
+use Rattle.lk_law.proofs.Names.{Passes, Says, Tell, target, Flag, Frame, Pc, C1, C2, C8, C10, E4}
+use Rattle.lk_law.proofs.Names.{E7, E13, E15, F1, G3, G6, G8, G11, H2, K1, N2, R1, R2, R5, T1, T2}
+use Rattle.lk_law.proofs.Names.{U2, V2, W2, W4, W7, Wr1, Wr3, Wr6, Y1, Y2, Y4, Y5, Sight}
+use Rattle.lk_law.proofs.Names.{after_none, is_held, is_last, may_stay, search_first, search_on}
+use Rattle.lk_law.proofs.Names.{is_halted, is_running, is_set, after_flag, is_sole, is_free}
+use Rattle.lk_law.proofs.Names.{is_unlocked, course_in, IsSoundSpinWorld, Made, sight_in, World}
 use Rattle.lk_rows.specs.rows.Rw.{is_open, is_empty, is_cleared}
-use Rattle.lk_rows.specs.Moves.{node_of}
-use Rattle.lk_rows.specs.TopRow.{target}
-use Rattle.lk_law.specs.Leads.{course_in}
-use Rattle.lk_law.specs.Nodes.{LeadGoesOn}
-use Rattle.lk_law.specs.Premises.{GoesTo}
-use Rattle.lk_law.specs.SpinWorld.{IsSoundSpinWorld}
-use Rattle.lk_law.specs.Steps.{Made, sight_in}
-use Rattle.lk_law.specs.World.{World}
-use Rattle.lk_law.proofs.common.Knows.{next_is_used, halting_next_is_used}
 use Rattle.lk_law.proofs.cna.Knows.{choice_is_used}
+use Rattle.lk_law.proofs.common.Knows.{next_is_used, halting_next_is_used}
 use Rattle.lk_law.proofs.running.Leads.{row_is_led}
+use Rattle.lk_law.specs.{Nodes.LeadGoesOn, Premises.GoesTo}
+use Rattle.lk_rows.specs.declared.parts.Flag.TheVariants as flag
 
 -- the lead is handed on
 abbrev passes : Tell → Bool

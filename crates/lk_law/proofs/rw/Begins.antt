@@ -2,38 +2,20 @@
 -- reader-writer locks.
 use Rattle.std.proofs.Common.{◌≡◌, inl, inr, ℕ, Option, Some, None, true, false, arith, ap, refl}
 use Rattle.std.proofs.Common.{sym, ◌∙◌, subst}
-use Rattle.std.proofs.lemmas.Bool.{cases_eq}
-use Rattle.lk_names.specs.History.{LockHistory}
-use Rattle.lk_names.specs.declared.holder.Manner.{Manner}
-use Rattle.lk_names.specs.declared.holder.Manner.TheVariants.{Reads, Writes}
-use Rattle.lk_names.specs.declared.names.Kind.{Kind}
-use Rattle.lk_names.specs.declared.names.Kind.TheVariants.{Spin, Rw}
-use Rattle.lk_names.specs.declared.names.Mode.{Mode}
-use Rattle.lk_names.specs.declared.names.Mode.TheVariants.{Virt, Native, Cna, Pv}
-use Rattle.lk_names.specs.declared.names.Waiter.{Waiter}
-use Rattle.lk_rows.specs.declared.setup.Op.{Op}
-use Rattle.lk_rows.specs.declared.setup.Verb.{Verb}
-use Rattle.lk_rows.specs.declared.setup.Verb.TheVariants.{Lock, Try, Unlock, Read, TryRead}
-use Rattle.lk_rows.specs.declared.setup.Verb.TheVariants.{RUnlock, Write, TryWrite, WUnlock}
-use Rattle.lk_rows.specs.declared.parts.Frame.{Frame}
-use Rattle.lk_rows.specs.declared.parts.Pc.{Pc}
+use Rattle.lk_law.proofs.Names.{cases_eq, LockHistory, Manner, Reads, Writes, Kind, Rw, Mode, Cna}
+use Rattle.lk_law.proofs.Names.{Native, Pv, Virt, Waiter, first_place, rw_name, started, Frame, Pc}
+use Rattle.lk_law.proofs.Names.{Op, Verb, Unlock, is_rw_row, HasNoPlace, RwAgrees, RwStep, RwPhase}
+use Rattle.lk_law.proofs.Names.{announces, asks, is_counted, is_inner, Away, Unreads, Unwrites}
+use Rattle.lk_law.proofs.Names.{RwFits, rw_helds, rw_own_phase, rw_phase_if, rw_phase_on, rw_phases}
+use Rattle.lk_law.proofs.Names.{rw_waits, spin_part, put_frame, World}
+use Rattle.lk_names.specs.declared.names.Kind.TheVariants.{Spin}
 use Rattle.lk_rows.specs.Programs.{way_before, kind_of}
-use Rattle.lk_rows.specs.Moves.{rw_name, first_place, started}
-use Rattle.lk_law.specs.RwPhase.{RwPhase, biased, asks, is_inner, announces, is_counted}
-use Rattle.lk_law.specs.RwPhase.RwPhase.{Away, Unreads, Unwrites}
-use Rattle.lk_law.specs.RwAgree.{RwAgrees, RwStep}
-use Rattle.lk_law.specs.World.{World}
-use Rattle.lk_law.specs.Steps.{put_frame}
-use Rattle.lk_law.specs.Premises.{HasNoPlace}
-use Rattle.lk_law.specs.Families.{is_rw_row}
-use Rattle.lk_law.specs.SoundWorld.{rw_own_phase, rw_phase_at, rw_phase_if, rw_phase_on}
-use Rattle.lk_law.specs.SoundWorld.{rw_phases, rw_helds, rw_waits, spin_part, RwFits}
-use Rattle.lk_law.specs.WorldLaws.{BeginKeeps, EndKeeps}
-use Rattle.lk_law.proofs.common.Cases.{waiter_cases}
-use Rattle.lk_law.proofs.common.Puts.{put_moves}
+use Rattle.lk_rows.specs.declared.setup.Verb.TheVariants.{Lock, Try, Read, TryRead, RUnlock, Write}
+use Rattle.lk_rows.specs.declared.setup.Verb.TheVariants.{TryWrite, WUnlock}
 use Rattle.lk_law.proofs.common.Begins.{spin_begin_keeps, spin_end_keeps}
-use Rattle.lk_law.proofs.rw.Laws.{rw_turn}
+use Rattle.lk_law.proofs.{common.Cases.waiter_cases, common.Puts.put_moves, rw.Laws.rw_turn}
 use Rattle.lk_law.proofs.rw.Phases.{rw_here, rw_else}
+use Rattle.lk_law.specs.{RwPhase.biased, SoundWorld.rw_phase_at, WorldLaws.{BeginKeeps, EndKeeps}}
 
 -- a frame goes from one phase to another for a reader-writer lock, and holds all as before
 pub record RwTurns (r' : RwPhase) (h : Option Manner) : Type 0 where

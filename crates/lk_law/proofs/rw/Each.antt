@@ -1,8 +1,8 @@
 -- Lists that have each of some, once: with one more, and with one less.
 use Rattle.std.proofs.Common.{◌≡◌, ◌≢◌, ℕ, zero, suc, Some, Bool, true, false, List, [], ◌∷◌, ◌++◌}
 use Rattle.std.proofs.Common.{length, slice_get, ◌⊎◌, inl, inr, arith, ap, refl, sym, ◌∙◌, subst}
-use Rattle.std.specs.Prelude.{if◌then◌else◌}
-use Rattle.lk_law.specs.RwAgree.{IsEach}
+use Rattle.std.proofs.Common.{if◌then◌else◌}
+use Rattle.lk_law.proofs.Names.{IsEach}
 
 -- two are the same, or not
 abbrev pub Decides : Type 0 → Type 0

@@ -1,34 +1,19 @@
 -- What a row of a spinlock or a wait lock leaves of reader-writer locks.
 use Rattle.std.proofs.Common.{◌≡◌, ◌≢◌, ℕ, Option, Some, None, Bool, false, List, [], ◌∷◌, arith}
-use Rattle.std.proofs.Common.{ap, refl, ◌∙◌}
-use Rattle.std.specs.Prelude.{◌&&◌, if◌then◌else◌}
-use Rattle.lk_names.specs.Names.{same_lock, same_waiter}
-use Rattle.lk_names.specs.History.{lock_of}
-use Rattle.lk_names.specs.declared.holder.Manner.{Manner}
-use Rattle.lk_names.specs.declared.holder.Manner.TheVariants.{Spins}
-use Rattle.lk_names.specs.declared.names.Waiter.{Waiter}
-use Rattle.lk_names.specs.declared.names.LockName.{LockName}
-use Rattle.lk_word.specs.declared.spin_word.NodeName.{NodeName}
-use Rattle.lk_word.specs.declared.spin_word.Fields.{Fields}
-use Rattle.lk_rows.specs.declared.parts.State.{State}
-use Rattle.lk_rows.specs.declared.parts.Flag.{Flag}
-use Rattle.lk_rows.specs.declared.parts.Frame.{Frame}
-use Rattle.lk_rows.specs.declared.parts.Pc.{Pc}
-use Rattle.lk_rows.specs.Row.{Lead, Goes, Enters, Granted, Freed, Missed, Done, TakesWait}
-use Rattle.lk_rows.specs.Row.{Leaves, Yields, Tell, Nothing, Says, Passes, Change, with_change}
-use Rattle.lk_rows.specs.Row.{changed_all, Prev, Second, Y, Left, A, B, K, T, Reason, Tailed}
-use Rattle.lk_rows.specs.Row.{HashedIs, TargetIs}
-use Rattle.lk_law.specs.Snapshot.{Moves}
-use Rattle.lk_law.specs.World.{World}
-use Rattle.lk_law.specs.Steps.{Made, led, way_led, led_rest, lead_on, stores_word, stores_flag}
-use Rattle.lk_law.specs.Steps.{stores_next, stores_queued, stores_second, stores_runs, put_frame}
-use Rattle.lk_law.specs.Steps.{put_held, stores_state, stores_entry, stores_halted, stores_kicked}
-use Rattle.lk_law.specs.Families.{is_rw_row}
-use Rattle.lk_law.specs.SoundWorld.{Part, part_of}
-use Rattle.lk_law.specs.SoundWorld.Part.{Taking, Freeing, Owing}
-use Rattle.lk_law.proofs.common.Sames.{same_lock-self, same_waiter-self}
+use Rattle.std.proofs.Common.{ap, refl, ◌∙◌, ◌&&◌, if◌then◌else◌}
+use Rattle.lk_law.proofs.Names.{Fields, NodeName, lock_of, same_lock, same_waiter, Manner, Spins}
+use Rattle.lk_law.proofs.Names.{LockName, Waiter, A, B, Done, Enters, Freed, Goes, Granted}
+use Rattle.lk_law.proofs.Names.{HashedIs, K, Lead, Leaves, Left, Missed, Nothing, Passes, Prev}
+use Rattle.lk_law.proofs.Names.{Reason, Says, TakesWait, Tell, Y, Yields, Flag, Frame, Pc, State}
+use Rattle.lk_law.proofs.Names.{is_rw_row, Moves, Part, part_of, Freeing, Taking, Made, lead_on}
+use Rattle.lk_law.proofs.Names.{led, put_frame, put_held, stores_entry, stores_flag, stores_halted}
+use Rattle.lk_law.proofs.Names.{stores_kicked, stores_next, stores_queued, stores_runs}
+use Rattle.lk_law.proofs.Names.{stores_second, stores_state, stores_word, way_led, World}
+use Rattle.lk_rows.specs.Row.{Change, with_change, changed_all, Second, T, Tailed, TargetIs}
 use Rattle.lk_law.proofs.common.Puts.{if-true, if-false, put_moves, same_lock-else}
 use Rattle.lk_law.proofs.common.Puts.{same_waiter-else}
+use Rattle.lk_law.proofs.common.Sames.{same_lock-self, same_waiter-self}
+use Rattle.lk_law.specs.{SoundWorld.Part.Owing, Steps.led_rest}
 
 -- n is m but for words of spinlocks, nodes and counts
 pub record Beside (m n : World) : Type 0 where

@@ -1,23 +1,15 @@
 -- How many readers a lock can have: as many as there are waiters.
 use Rattle.std.proofs.Common.{◌≡◌, ℕ, ◌<◌, ◌≤◌, Option, Some, None, true, eqb, List, map, length}
 use Rattle.std.proofs.Common.{get_or, slice_get, arith, ap, refl, sym, ◌∙◌}
-use Rattle.std.specs.List.{IsDistinct}
-use Rattle.std.specs.List.{All}
-use Rattle.std.proofs.lemmas.Bool.{eqb-true, ne_eqb}
-use Rattle.std.proofs.lemmas.Option.{slice_get-get_or}
-use Rattle.std.proofs.lemmas.List.{get_or-map, length-map}
-use Rattle.std.proofs.lemmas.List.Elements.{All-map}
-use Rattle.std.proofs.lemmas.List.Folds.{Any-from_list_any}
+use Rattle.std.proofs.{lemmas.Bool.ne_eqb, lemmas.List.{get_or-map, length-map}}
+use Rattle.std.proofs.{lemmas.List.Elements.All-map, lemmas.List.Folds.Any-from_list_any}
 use Rattle.std.proofs.lemmas.Map.Keys.{IsDistinct-from_apart}
 use Rattle.std.proofs.lemmas.Map.Steps.{length-le_from_distinct_below}
+use Rattle.std.proofs.lemmas.Option.{slice_get-get_or}
+use Rattle.std.specs.List.{IsDistinct, All}
+use Rattle.lk_law.proofs.Names.{eqb-true, Waiter, rw_name, Frame, IsEach, is_counted, Away}
+use Rattle.lk_law.proofs.Names.{rw_phase_on}
 use Rattle.lk_names.specs.Lists.{waiter_number, IsOneOf}
-use Rattle.lk_names.specs.declared.names.Waiter.{Waiter}
-use Rattle.lk_rows.specs.declared.parts.Frame.{Frame}
-use Rattle.lk_rows.specs.Moves.{rw_name}
-use Rattle.lk_law.specs.RwPhase.{is_counted}
-use Rattle.lk_law.specs.RwPhase.RwPhase.{Away}
-use Rattle.lk_law.specs.RwAgree.{IsEach}
-use Rattle.lk_law.specs.SoundWorld.{rw_phase_on}
 use Rattle.lk_law.specs.RwKnown.{ReadersAreFew}
 
 -- two of so many waiters with one number are one

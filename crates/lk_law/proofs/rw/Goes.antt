@@ -1,44 +1,22 @@
 -- The ways in which a row of a reader or a writer leads on, each of which keeps every sound world.
-use Rattle.std.proofs.Common.{◌≡◌, ◌≢◌, Option, Some, None, Bool, true, false, arith, ap}
-use Rattle.std.proofs.Common.{refl, sym, ◌∙◌, subst}
-use Rattle.lk_names.specs.History.{LockHistory, lock_of, told, changed}
-use Rattle.lk_names.specs.declared.holder.Manner.{Manner}
-use Rattle.lk_names.specs.declared.holder.Manner.TheVariants.{Spins}
-use Rattle.lk_names.specs.Lawful.{Rules, OwnsUp, InOrder}
-use Rattle.lk_names.specs.declared.names.Waiter.{Waiter}
-use Rattle.lk_names.specs.declared.names.LockName.{LockName}
-use Rattle.lk_names.specs.declared.events.Event.{Event}
-use Rattle.lk_names.specs.declared.events.What.{What}
-use Rattle.lk_word.specs.declared.rw_word.RwFields.{RwFields}
-use Rattle.lk_rows.specs.declared.setup.Verb.TheVariants.{Unlock}
-use Rattle.lk_rows.specs.declared.parts.Frame.{Frame}
-use Rattle.lk_rows.specs.declared.parts.Pc.{Pc}
-use Rattle.lk_rows.specs.declared.parts.Pc.TheVariants.{R1, R2, R3, R4, R5, Wr1, Wr2, Wr3, Wr4}
-use Rattle.lk_rows.specs.declared.parts.Pc.TheVariants.{Wr5, Wr6, Y1, Y2, Y3, Y4, Y5, Z1, Z2}
-use Rattle.lk_rows.specs.Moves.{first_place, rw_name, wait_name, waiting}
-use Rattle.lk_rows.specs.Row.{Effect, Tell, Nothing, Says}
-use Rattle.lk_rows.specs.rows.Rw.{frees_wait}
-use Rattle.lk_law.proofs.rw.Else.{IsOfLock}
-use Rattle.lk_law.specs.SoundWorld.Part.{Freeing}
-use Rattle.lk_law.specs.RwPhase.{RwPhase, is_inner}
-use Rattle.lk_law.specs.RwPhase.RwPhase.{Away, Asks, Frees}
-use Rattle.lk_law.specs.RwAgree.{RwAgrees, RwStep}
-use Rattle.lk_law.specs.World.{World}
-use Rattle.lk_law.specs.Registers.{IsQuiet}
-use Rattle.lk_law.specs.Steps.{rw_led, led, told_event, told_on}
-use Rattle.lk_law.specs.Premises.{IsThen}
-use Rattle.lk_law.specs.Allowed.{MayFollowIfAny}
-use Rattle.lk_law.specs.Families.{is_rw_row}
-use Rattle.lk_law.specs.SoundWorld.{rw_own_phase, rw_phases, rw_helds, rw_waits}
-use Rattle.lk_law.specs.SoundWorld.{IsSoundWorld, rw_wait_phase, part_of}
-use Rattle.lk_law.proofs.common.Puts.{if-true, if-false}
-use Rattle.lk_law.proofs.common.Told.{told_here}
-use Rattle.lk_law.proofs.common.Allowed.{on_lock}
-use Rattle.lk_law.proofs.common.Choices.{quiet_none, quiet_some}
-use Rattle.lk_law.proofs.rw.Laws.{rw_shared}
+use Rattle.std.proofs.Common.{◌≡◌, ◌≢◌, Option, Some, None, Bool, true, false, arith, ap, refl, sym}
+use Rattle.std.proofs.Common.{◌∙◌, subst}
+use Rattle.lk_law.proofs.Names.{RwFields, LockHistory, changed, lock_of, told, Rules, Event, What}
+use Rattle.lk_law.proofs.Names.{Manner, Spins, LockName, Waiter, first_place, rw_name, wait_name}
+use Rattle.lk_law.proofs.Names.{Effect, Nothing, Says, Tell, Frame, Pc, R1, R2, R3, R4, R5, Wr1}
+use Rattle.lk_law.proofs.Names.{Wr2, Wr3, Wr4, Wr5, Wr6, Y1, Y2, Y3, Y4, Y5, Z1, Z2, Unlock}
+use Rattle.lk_law.proofs.Names.{MayFollowIfAny, is_rw_row, IsThen, IsQuiet, RwAgrees, RwStep}
+use Rattle.lk_law.proofs.Names.{RwPhase, is_inner, Asks, Away, Frees, IsSoundWorld, part_of}
+use Rattle.lk_law.proofs.Names.{rw_helds, rw_own_phase, rw_phases, rw_waits, Freeing, led}
+use Rattle.lk_law.proofs.Names.{told_event, told_on, World}
+use Rattle.lk_names.specs.Lawful.{OwnsUp, InOrder}
+use Rattle.lk_rows.specs.{Moves.waiting, rows.Rw.frees_wait}
+use Rattle.lk_law.proofs.{common.Allowed.on_lock, common.Choices.{quiet_none, quiet_some}}
+use Rattle.lk_law.proofs.{common.Puts.{if-true, if-false}, common.Told.told_here, rw.Else.IsOfLock}
 use Rattle.lk_law.proofs.rw.Kept.{RwStored, side_rests, side_takes, side_frees, RwStands, rw_kind}
 use Rattle.lk_law.proofs.rw.Kept.{rw_waits_here, RwGoing, rw_after, going_put, going_rw_step}
-use Rattle.lk_law.proofs.rw.Kept.{going_sound, frees_by}
+use Rattle.lk_law.proofs.{rw.Kept.{going_sound, frees_by}, rw.Laws.rw_shared}
+use Rattle.lk_law.specs.{SoundWorld.rw_wait_phase, Steps.rw_led}
 
 -- what a row is to keep
 abbrev pub RwKept : World → (LockName → LockHistory) → Rules → Waiter → Waiter → Frame → World

@@ -2,19 +2,15 @@
 -- reader-writer lock.
 use Rattle.std.proofs.Common.{◌≡◌, ◌≢◌, ◌⊎◌, inl, inr, ℕ, ◌+◌, ◌-◌, Option, Some, None, Bool, true}
 use Rattle.std.proofs.Common.{false, List, [], ◌∷◌, ◌++◌, arith, ap, refl, sym, ◌∙◌, subst}
-use Rattle.lk_names.specs.Names.{same_waiter}
-use Rattle.lk_names.specs.History.{same_manner, is_hold, without}
-use Rattle.lk_names.specs.declared.holder.Manner.{Manner}
-use Rattle.lk_names.specs.declared.holder.Manner.TheVariants.{Spins, Reads, Writes}
-use Rattle.lk_names.specs.declared.holder.Holder.{Holder}
-use Rattle.lk_names.specs.declared.names.Waiter.{Waiter}
-use Rattle.lk_law.specs.RwPhase.{RwPhase, asks, is_inner, rests, announces, is_counted}
-use Rattle.lk_law.specs.RwPhase.RwPhase.{Announces, Unreads, Unwrites}
-use Rattle.lk_law.specs.RwAgree.{IsEach, ReadersAgree, HoldsAgree, WaitingAgrees, RwStep}
+use Rattle.lk_law.proofs.Names.{without, same_waiter, Holder, Manner, Reads, Spins, Writes, Waiter}
+use Rattle.lk_law.proofs.Names.{HoldsAgree, IsEach, RwStep, RwPhase, announces, asks, is_counted}
+use Rattle.lk_law.proofs.Names.{is_inner, rests, Announces, Unreads, Unwrites}
+use Rattle.lk_names.specs.History.{same_manner, is_hold}
 use Rattle.lk_law.proofs.common.Cases.{waiter_cases}
 use Rattle.lk_law.proofs.common.Sames.{same_waiter-self, same_waiter-true}
 use Rattle.lk_law.proofs.rw.Each.{Decides, each_same, each_more, each_less, without_first}
 use Rattle.lk_law.proofs.rw.Each.{length_more, length_less}
+use Rattle.lk_law.specs.RwAgree.{ReadersAgree, WaitingAgrees}
 
 pub manner_cases : Decides Manner
 manner_cases a b = grind (arith, cases a, cases b)

@@ -1,63 +1,30 @@
 -- The frame of a row of a reader or a writer: a world after its store, and then the frame moves and
 -- its waiter's hold of the lock changes.
-use Rattle.lk_rows.specs.declared.setup.Verb.TheVariants.{Unlock}
-use Rattle.lk_law.specs.SoundWorld.Part.{Freeing}
-use Rattle.lk_names.specs.declared.names.Mode.TheVariants.{Virt, Native, Cna, Pv}
-use Rattle.lk_names.specs.declared.names.Mode.{Mode}
-use Rattle.lk_law.proofs.pv.Outside.{Posted}
-use Rattle.lk_law.proofs.pv.SharedLaws.{law_turn_pv}
-use Rattle.lk_law.specs.Pv.Post.{Off}
-use Rattle.lk_law.specs.Pv.{agrees}
 use Rattle.std.proofs.Common.{◌≡◌, ◌≢◌, inl, inr, ℕ, Option, Some, None, Bool, true, false, arith}
-use Rattle.std.proofs.Common.{ap, refl, sym, ◌∙◌, subst}
-use Rattle.std.specs.Prelude.{◌==◌, is_some, ◌≤◌}
-use Rattle.std.proofs.lemmas.Bool.{cases_eq, eqb-true, cases_Bool}
-use Rattle.lk_names.specs.History.{LockHistory, no_history}
-use Rattle.lk_names.specs.declared.holder.Manner.{Manner}
-use Rattle.lk_names.specs.declared.holder.Manner.TheVariants.{Spins, Reads, Writes}
-use Rattle.lk_names.specs.declared.names.Kind.{Kind}
-use Rattle.lk_names.specs.declared.names.Kind.TheVariants.{Rw}
-use Rattle.lk_names.specs.declared.names.Waiter.{Waiter}
-use Rattle.lk_names.specs.declared.names.LockName.{LockName}
-use Rattle.lk_names.specs.declared.events.Event.{Event}
-use Rattle.lk_word.specs.declared.spin_word.NodeName.{NodeName}
-use Rattle.lk_word.specs.declared.spin_word.Fields.{Fields}
-use Rattle.lk_word.specs.declared.rw_word.RwFields.{RwFields}
-use Rattle.lk_rows.specs.declared.parts.Node.{Node}
-use Rattle.lk_rows.specs.declared.parts.Frame.{Frame}
-use Rattle.lk_rows.specs.declared.parts.Pc.{Pc}
-use Rattle.lk_rows.specs.declared.parts.Pc.TheVariants.{F1, U1, G5, G11, U2}
-use Rattle.lk_rows.specs.Moves.{rw_name, wait_name, node_of, waiting, first_place}
-use Rattle.lk_law.specs.Phase.{Phase, has_node}
-use Rattle.lk_law.specs.Phase.Phase.{Idle, Seeks, Releases}
-use Rattle.lk_law.specs.Snapshot.{spins}
-use Rattle.lk_law.specs.Agree.{Step, Stays, halts}
-use Rattle.lk_law.specs.RwPhase.{RwPhase, is_inner}
-use Rattle.lk_law.specs.RwAgree.{RwAgrees, RwStep}
-use Rattle.lk_law.specs.World.{World}
-use Rattle.lk_law.specs.SpinWorld.{IsSoundSpinWorld}
-use Rattle.lk_law.specs.Registers.{IsQuiet, is_quiet_row}
-use Rattle.lk_law.specs.Places.{snapshot, phase_of}
-use Rattle.lk_law.specs.Places.{phase_if}
-use Rattle.lk_law.specs.Families.{is_slow}
-use Rattle.lk_law.specs.Steps.{put_rw, put_frame, put_held, told_on}
-use Rattle.lk_law.specs.Registers.{ChoiceFits}
-use Rattle.lk_law.specs.Places.{post_of, post_on, post_at, phase_at}
-use Rattle.lk_law.specs.Families.{is_rw_row}
-use Rattle.lk_law.specs.SoundWorld.{rw_own_phase, rw_phase_if, rw_phase_of, rw_phase_on}
-use Rattle.lk_law.specs.SoundWorld.{rw_phases, rw_helds, rw_waits, is_rw_name, spin_part, RwFits}
-use Rattle.lk_law.specs.SoundWorld.{IsSoundWorld, part_of}
-use Rattle.lk_law.proofs.common.Cases.{waiter_cases, lock_cases}
-use Rattle.lk_law.proofs.common.Puts.{if-true, if-false, not-true}
-use Rattle.lk_law.proofs.spin.Laws.{IsTurn, law_turn, turn_seeks, turn_releases}
+use Rattle.std.proofs.Common.{ap, refl, sym, ◌∙◌, subst, ◌==◌, is_some, ◌≤◌}
+use Rattle.lk_law.proofs.Names.{cases_Bool, cases_eq, eqb-true, RwFields, Fields, NodeName}
+use Rattle.lk_law.proofs.Names.{LockHistory, no_history, Event, Manner, Reads, Spins, Writes, Kind}
+use Rattle.lk_law.proofs.Names.{Rw, LockName, Mode, Cna, Native, Pv, Virt, Waiter, first_place}
+use Rattle.lk_law.proofs.Names.{node_of, rw_name, wait_name, Frame, Node, Pc, F1, G5, G11, U1, U2}
+use Rattle.lk_law.proofs.Names.{Unlock, Stays, Step, halts, moves_aside, is_rw_row, is_slow, Phase}
+use Rattle.lk_law.proofs.Names.{has_node, Idle, Releases, Seeks, phase_at, phase_if, phase_of}
+use Rattle.lk_law.proofs.Names.{post_at, post_of, post_on, snapshot, agrees, Off, ChoiceFits}
+use Rattle.lk_law.proofs.Names.{IsQuiet, RwAgrees, RwStep, RwPhase, is_inner, spins, IsSoundWorld}
+use Rattle.lk_law.proofs.Names.{RwFits, is_rw_name, part_of, rw_helds, rw_own_phase, rw_phase_if}
+use Rattle.lk_law.proofs.Names.{rw_phase_of, rw_phase_on, rw_phases, rw_waits, spin_part, Freeing}
+use Rattle.lk_law.proofs.Names.{IsSoundSpinWorld, put_frame, put_held, told_on, World}
+use Rattle.lk_rows.specs.Moves.{waiting}
 use Rattle.lk_law.proofs.common.Begins.{turn_idle}
-use Rattle.lk_law.proofs.common.Choices.{quiet_choice, fixed_choice, unchosen}
-use Rattle.lk_law.specs.Cna.{moves_aside}
-use Rattle.lk_law.proofs.common.Worlds.{ActsOn, idle_off, post_on-off, world_step, world_stays}
-use Rattle.lk_law.proofs.common.Worlds.{world_sound, world_owes}
-use Rattle.lk_law.proofs.rw.Else.{Put, put_held_frame}
-use Rattle.lk_law.proofs.rw.Phases.{rw_step, rws_else, rw_here}
 use Rattle.lk_law.proofs.common.BothLayers.{IsOf, told_on-else, fits_after}
+use Rattle.lk_law.proofs.common.Cases.{waiter_cases, lock_cases}
+use Rattle.lk_law.proofs.common.Choices.{quiet_choice, fixed_choice, unchosen}
+use Rattle.lk_law.proofs.common.Puts.{if-true, if-false, not-true}
+use Rattle.lk_law.proofs.common.Worlds.{ActsOn, idle_off, post_on-off, world_step, world_stays}
+use Rattle.lk_law.proofs.{common.Worlds.{world_sound, world_owes}, pv.Outside.Posted}
+use Rattle.lk_law.proofs.{pv.SharedLaws.law_turn_pv, rw.Else.{Put, put_held_frame}}
+use Rattle.lk_law.proofs.rw.Phases.{rw_step, rws_else, rw_here}
+use Rattle.lk_law.proofs.spin.Laws.{IsTurn, law_turn, turn_seeks, turn_releases}
+use Rattle.lk_law.specs.{Registers.is_quiet_row, Steps.put_rw}
 
 -- n is m but for the word of one reader-writer lock, which is x
 pub record RwStored (m n : World) (i : ℕ) (x : RwFields) : Type 0 where

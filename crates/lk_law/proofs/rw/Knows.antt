@@ -1,18 +1,10 @@
 -- What a sound world says of the word that a row of a reader or a writer meets.
 use Rattle.std.proofs.Common.{◌≡◌, ℕ, ◌<◌, Some, true, false, List, [], ◌∷◌, length, slice_get}
 use Rattle.std.proofs.Common.{arith, ap, refl, ◌∙◌}
-use Rattle.lk_names.specs.History.{LockHistory}
-use Rattle.lk_names.specs.declared.names.Waiter.{Waiter}
-use Rattle.lk_names.specs.declared.names.LockName.{LockName}
-use Rattle.lk_rows.specs.declared.parts.Frame.{Frame}
-use Rattle.lk_rows.specs.declared.parts.Pc.{Pc}
-use Rattle.lk_rows.specs.declared.parts.Pc.TheVariants.{R2, R3, R5, Wr5, Wr6, Y3, Z1, Z2}
-use Rattle.lk_law.specs.RwPhase.{is_counted}
-use Rattle.lk_law.specs.World.{World}
-use Rattle.lk_law.specs.SoundWorld.{rw_own_phase}
+use Rattle.lk_law.proofs.Names.{LockHistory, LockName, Waiter, Frame, Pc, R2, R3, R5, Wr5, Wr6, Y3}
+use Rattle.lk_law.proofs.Names.{Z1, Z2, is_counted, rw_own_phase, World}
+use Rattle.lk_law.proofs.{rw.Goes.rw_quiet, rw.Kept.{RwStands, rw_kind, rw_ok, rw_shown}}
 use Rattle.lk_law.specs.RwKnown.{RwKnown, RwRowKnows}
-use Rattle.lk_law.proofs.rw.Kept.{RwStands, rw_kind, rw_ok, rw_shown}
-use Rattle.lk_law.proofs.rw.Goes.{rw_quiet}
 
 some_in : {A : Type 0} (xs : List A) (i : ℕ) (x : A) → slice_get xs i ≡ Some x → 0 < length xs
 some_in [] i x p = cc

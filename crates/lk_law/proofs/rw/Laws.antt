@@ -1,25 +1,18 @@
 -- The laws of the rows of readers and writers over one lock: what each does to the word, the phases
 -- and the history, and that its event is allowed.
-use Rattle.std.specs.Prelude.{Contains}
-use Rattle.std.specs.List.{count_by}
-use Rattle.std.proofs.Common.{◌≡◌, ◌≢◌, inl, inr, ℕ, zero, ◌+◌, ◌-◌, suc, Option, Some, None, Bool}
-use Rattle.std.proofs.Common.{true, false, List, [], ◌∷◌, ◌++◌, slice_get, cond, arith, ap, refl}
-use Rattle.std.proofs.Common.{sym, ◌∙◌}
-use Rattle.std.proofs.lemmas.Option.{slice_get_within, get_or_from_slice_get}
+use Rattle.std.proofs.Common.{Contains, ◌≡◌, ◌≢◌, inl, inr, ℕ, zero, ◌+◌, ◌-◌, suc, Option, Some}
+use Rattle.std.proofs.Common.{None, Bool, true, false, List, [], ◌∷◌, ◌++◌, slice_get, cond, arith}
+use Rattle.std.proofs.Common.{ap, refl, sym, ◌∙◌}
 use Rattle.std.proofs.lemmas.List.Sums.{sum_by-cons}
-use Rattle.lk_names.specs.Names.{same_waiter}
-use Rattle.lk_names.specs.History.{LockHistory, with_holder, without_holder}
-use Rattle.lk_names.specs.declared.holder.Manner.{Manner}
-use Rattle.lk_names.specs.declared.holder.Manner.TheVariants.{Spins, Reads, Writes}
-use Rattle.lk_names.specs.declared.holder.Holder.{Holder}
-use Rattle.lk_names.specs.Lawful.{IsShared, Holds, writes}
-use Rattle.lk_names.specs.declared.names.Waiter.{Waiter}
-use Rattle.lk_word.specs.declared.rw_word.RwFields.{RwFields}
-use Rattle.lk_law.specs.RwPhase.{RwPhase, asks, rests, announces, is_counted}
-use Rattle.lk_law.specs.RwPhase.RwPhase.{Announces, Unreads, Unwrites}
-use Rattle.lk_law.specs.RwAgree.{HoldsAgree, RwAgrees, RwStep}
-use Rattle.lk_law.proofs.rw.Each.{each_nobody, each_one, without_first}
+use Rattle.std.proofs.lemmas.Option.{slice_get_within, get_or_from_slice_get}
+use Rattle.std.specs.List.{count_by}
+use Rattle.lk_law.proofs.Names.{RwFields, LockHistory, with_holder, without_holder, IsShared}
+use Rattle.lk_law.proofs.Names.{same_waiter, Holder, Manner, Reads, Spins, Writes, Waiter}
+use Rattle.lk_law.proofs.Names.{HoldsAgree, RwAgrees, RwStep, RwPhase, announces, asks, is_counted}
+use Rattle.lk_law.proofs.Names.{rests, Announces, Unreads, Unwrites}
+use Rattle.lk_names.specs.Lawful.{Holds, writes}
 use Rattle.lk_law.proofs.common.Holders.{contains_at}
+use Rattle.lk_law.proofs.rw.Each.{each_nobody, each_one, without_first}
 use Rattle.lk_law.proofs.rw.Hold.{counted_keep, counted_more, counted_less, rw_hold_keep}
 use Rattle.lk_law.proofs.rw.Hold.{rw_hold_read, rw_hold_write, rw_hold_unread, rw_hold_unwrite}
 use Rattle.lk_law.proofs.rw.Hold.{waiting_keep, waiting_set, waiting_clear}

@@ -1,33 +1,16 @@
 -- What a row of a spinlock or a wait lock does to the phase of its waiter for a reader-writer lock.
-use Rattle.std.proofs.Common.{◌≡◌, ◌≢◌, inl, inr, ℕ, Option, Some, None, Bool, true, false}
-use Rattle.std.proofs.Common.{arith, ap, refl, sym, ◌∙◌, subst}
-use Rattle.std.specs.Prelude.{◌==◌, if◌then◌else◌}
-use Rattle.std.proofs.lemmas.Bool.{cases_eq}
-use Rattle.lk_names.specs.History.{LockHistory}
-use Rattle.lk_names.specs.declared.holder.Manner.{Manner}
-use Rattle.lk_names.specs.declared.names.Kind.TheVariants.{Rw}
-use Rattle.lk_names.specs.declared.names.Waiter.{Waiter}
-use Rattle.lk_names.specs.declared.names.LockName.{LockName}
-use Rattle.lk_rows.specs.declared.parts.Frame.{Frame}
-use Rattle.lk_rows.specs.declared.parts.Pc.{Pc}
-use Rattle.lk_rows.specs.Moves.{rw_name, wait_name}
-use Rattle.lk_rows.specs.Row.{Lead}
-use Rattle.lk_law.specs.Snapshot.{spins}
-use Rattle.lk_law.specs.RwPhase.{RwPhase, biased, asks, is_inner, announces, is_counted}
-use Rattle.lk_law.specs.RwPhase.RwPhase.{Away, Asks, Inside, Frees, Unreads, Unwrites}
-use Rattle.lk_law.specs.RwAgree.{RwAgrees, RwStep}
-use Rattle.lk_law.specs.World.{World}
-use Rattle.lk_law.specs.Steps.{way_led}
-use Rattle.lk_law.specs.Premises.{IsThen}
-use Rattle.lk_law.specs.Families.{is_rw_row}
-use Rattle.lk_law.specs.SoundWorld.{rw_own_phase, rw_wait_phase, rw_phase_at}
-use Rattle.lk_law.specs.SoundWorld.{rw_phase_if, rw_phase_of, rw_phase_on, rw_phases, rw_helds}
-use Rattle.lk_law.specs.SoundWorld.{rw_waits, RwFits, IsSoundWorld, Part, part_of}
-use Rattle.lk_law.specs.SoundWorld.Part.{Taking, Freeing, Owing}
-use Rattle.lk_law.proofs.common.Puts.{if-true, if-false}
-use Rattle.lk_law.proofs.rw.Laws.{rw_turn}
-use Rattle.lk_law.proofs.rw.Else.Onward.{Gave, Gives, Kicked, Lost, On, Took}
-use Rattle.lk_law.proofs.rw.Else.{IsIn, Onward, Put}
+use Rattle.std.proofs.Common.{◌≡◌, ◌≢◌, inl, inr, ℕ, Option, Some, None, Bool, true, false, arith}
+use Rattle.std.proofs.Common.{ap, refl, sym, ◌∙◌, subst, ◌==◌, if◌then◌else◌}
+use Rattle.lk_law.proofs.Names.{cases_eq, LockHistory, Manner, Rw, LockName, Waiter, rw_name}
+use Rattle.lk_law.proofs.Names.{wait_name, Lead, Frame, Pc, is_rw_row, IsThen, RwAgrees, RwStep}
+use Rattle.lk_law.proofs.Names.{RwPhase, announces, asks, is_counted, is_inner, Asks, Away, Frees}
+use Rattle.lk_law.proofs.Names.{Inside, Unreads, Unwrites, spins, IsSoundWorld, Part, RwFits}
+use Rattle.lk_law.proofs.Names.{part_of, rw_helds, rw_own_phase, rw_phase_if, rw_phase_of}
+use Rattle.lk_law.proofs.Names.{rw_phase_on, rw_phases, rw_waits, Freeing, Taking, way_led, World}
+use Rattle.lk_law.proofs.{common.Puts.{if-true, if-false}, rw.Else.{IsIn, Onward, Put}}
+use Rattle.lk_law.proofs.{rw.Else.Onward.{Gave, Gives, Kicked, Lost, On, Took}, rw.Laws.rw_turn}
+use Rattle.lk_law.specs.{RwPhase.biased, SoundWorld.{rw_wait_phase, rw_phase_at}}
+use Rattle.lk_law.specs.SoundWorld.Part.{Owing}
 
 -- at a row of a spinlock
 pub spin_phase : (c : Pc) (wait : Bool) → is_rw_row c ≡ false

@@ -1,43 +1,26 @@
 -- The rows of readers and writers keep every sound world.
-use Rattle.std.specs.Prelude.{◌==◌}
-use Rattle.std.proofs.Common.{◌≡◌, ◌≢◌, ◌⊎◌, inl, inr, ℕ, Option, Some, None, Bool, true, false, []}
-use Rattle.std.proofs.Common.{arith, ap, refl, sym, ◌∙◌}
-use Rattle.lk_names.specs.History.{LockHistory, told}
-use Rattle.lk_names.specs.declared.holder.Manner.{Manner}
-use Rattle.lk_names.specs.declared.holder.Manner.TheVariants.{Spins, Reads, Writes}
-use Rattle.lk_names.specs.Lawful.{Rules, OwnsUp}
-use Rattle.lk_names.specs.declared.names.Waiter.{Waiter}
-use Rattle.lk_names.specs.declared.names.LockName.{LockName}
-use Rattle.lk_names.specs.declared.events.RwHow.{RwHow}
-use Rattle.lk_names.specs.declared.events.What.TheVariants.{Miss, RTake, RRelease, WTake, WRelease}
-use Rattle.lk_word.specs.declared.rw_word.RwFields.{RwFields}
-use Rattle.lk_rows.specs.declared.parts.Frame.{Frame}
-use Rattle.lk_rows.specs.declared.parts.Pc.{Pc}
-use Rattle.lk_rows.specs.declared.parts.Pc.TheVariants.{R1, R2, R3, R4, R5, Wr1, Wr2, Wr3, Wr4}
-use Rattle.lk_rows.specs.declared.parts.Pc.TheVariants.{Wr5, Wr6, Y1, Y2, Y3, Y4, Y5, Z1, Z2}
-use Rattle.lk_rows.specs.Moves.{rw_name, wait_name}
-use Rattle.lk_rows.specs.Row.{Effect, Missed, Done, Says, looks, writes, misses}
-use Rattle.lk_rows.specs.rows.Rw.{is_empty, is_open, is_cleared, one_more, one_less}
-use Rattle.lk_rows.specs.rows.Rw.{written_word, rw_lock, admits, takes_written, queues_up}
-use Rattle.lk_rows.specs.rows.Rw.{frees_wait, after_bias}
-use Rattle.lk_law.specs.Phase.{Phase, has_lock}
-use Rattle.lk_law.specs.RwPhase.{RwPhase, asks, is_inner, announces, is_counted}
-use Rattle.lk_law.specs.RwPhase.RwPhase.{Asks, Biases, Inside, Joins, Announces, Unreads, Unwrites}
-use Rattle.lk_law.specs.RwAgree.{RwAgrees}
-use Rattle.lk_law.specs.World.{World}
-use Rattle.lk_law.specs.Steps.{row_in}
-use Rattle.lk_law.specs.Families.{is_rw_row}
-use Rattle.lk_law.specs.SoundWorld.{rw_own_phase, rw_phases, rw_helds, rw_waits}
-use Rattle.lk_law.specs.SoundWorld.{IsSoundWorld}
-use Rattle.lk_law.specs.WorldLaws.{RowKeeps}
+use Rattle.std.proofs.Common.{◌==◌, ◌≡◌, ◌≢◌, ◌⊎◌, inl, inr, ℕ, Option, Some, None, Bool, true}
+use Rattle.std.proofs.Common.{false, [], arith, ap, refl, sym, ◌∙◌}
+use Rattle.lk_law.proofs.Names.{RwFields, LockHistory, told, Rules, Miss, Manner, Reads, Spins}
+use Rattle.lk_law.proofs.Names.{Writes, LockName, Waiter, rw_name, wait_name, Done, Effect, Missed}
+use Rattle.lk_law.proofs.Names.{Says, looks, misses, writes, Frame, Pc, R1, R2, R3, R4, R5, Wr1}
+use Rattle.lk_law.proofs.Names.{Wr2, Wr3, Wr4, Wr5, Wr6, Y1, Y2, Y3, Y4, Y5, Z1, Z2, is_rw_row}
+use Rattle.lk_law.proofs.Names.{Phase, has_lock, RwAgrees, RwPhase, announces, asks, is_counted}
+use Rattle.lk_law.proofs.Names.{is_inner, Announces, Asks, Inside, Unreads, Unwrites, IsSoundWorld}
+use Rattle.lk_law.proofs.Names.{rw_helds, rw_own_phase, rw_phases, rw_waits, row_in, World}
+use Rattle.lk_law.proofs.Names.{RowKeeps}
+use Rattle.lk_names.specs.{Lawful.OwnsUp, declared.events.RwHow.RwHow}
+use Rattle.lk_names.specs.declared.events.What.TheVariants.{RTake, RRelease, WTake, WRelease}
+use Rattle.lk_rows.specs.rows.Rw.{is_empty, is_open, is_cleared, one_more, one_less, written_word}
+use Rattle.lk_rows.specs.rows.Rw.{rw_lock, admits, takes_written, queues_up, frees_wait, after_bias}
 use Rattle.lk_law.proofs.common.Puts.{if_cases}
+use Rattle.lk_law.proofs.rw.Goes.{OutcomeKept, RwKept, going_end, going_free, going_to, going_wait}
+use Rattle.lk_law.proofs.rw.Goes.{rw_quiet, silent, says}
+use Rattle.lk_law.proofs.rw.Kept.{rw_unstored, rw_stored, RwStands, rw_ok, rw_shown, rw_waits_here}
 use Rattle.lk_law.proofs.rw.Laws.{rw_unheld, rw_holds_so, rw_turn, rw_bias, rw_unbias, rw_read}
 use Rattle.lk_law.proofs.rw.Laws.{rw_admit, rw_write, rw_announce, rw_claim, rw_unread, rw_unwrite}
-use Rattle.lk_law.proofs.rw.Kept.{rw_unstored, rw_stored, RwStands, rw_ok, rw_shown, rw_waits_here}
-use Rattle.lk_law.proofs.rw.Goes.{OutcomeKept, RwKept, going_end, going_free, going_to, going_wait}
-use Rattle.lk_law.proofs.rw.Goes.{rw_quiet}
+use Rattle.lk_law.specs.RwPhase.RwPhase.{Biases, Joins}
 use Rattle.lk_names.specs.declared.events.RwHow.TheVariants as how
-use Rattle.lk_law.proofs.rw.Goes.{silent, says}
 
 -- words
 

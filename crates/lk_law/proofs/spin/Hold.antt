@@ -1,11 +1,7 @@
 -- Who holds the lock, where one waiter goes to another phase.
 use Rattle.std.proofs.Common.{◌≡◌, ◌≢◌, Option, Some, None, Bool, true, false, arith}
-use Rattle.lk_names.specs.declared.names.Waiter.{Waiter}
-use Rattle.lk_word.specs.declared.spin_word.Locked.{Locked}
-use Rattle.lk_word.specs.declared.spin_word.Locked.TheVariants.{Free, Held}
-use Rattle.lk_law.specs.Phase.{Phase, has_lock, seeks}
-use Rattle.lk_law.specs.Snapshot.{Moves, HolderAgrees}
-use Rattle.lk_law.specs.Phase.Phase.{Releases, Idle}
+use Rattle.lk_law.proofs.Names.{Locked, Free, Held, Waiter, Phase, has_lock, seeks, Idle, Releases}
+use Rattle.lk_law.proofs.Names.{HolderAgrees, Moves}
 use Rattle.lk_law.proofs.common.Cases.{waiter_cases}
 
 module _ {locked : Locked} {phase phase' : Waiter → Phase} {held held' : Waiter → Bool}

@@ -1,34 +1,19 @@
 -- The laws of the rows outside of the queue: a turn, a take of the free word, a release.
 use Rattle.std.proofs.Common.{◌≡◌, ◌≢◌, ℕ, Some, None, Bool, true, false, ◌⊎◌, inl, inr, arith, ap}
 use Rattle.std.proofs.Common.{refl, sym, ◌∙◌, subst, slice_get}
-use Rattle.lk_names.specs.History.{LockHistory, told, taken, with_holder}
-use Rattle.lk_names.specs.declared.holder.Manner.TheVariants.{Spins}
-use Rattle.lk_names.specs.declared.names.Waiter.{Waiter}
-use Rattle.lk_names.specs.declared.names.LockName.{LockName}
-use Rattle.lk_names.specs.declared.events.Event.{Event}
-use Rattle.lk_names.specs.declared.events.How.{How}
-use Rattle.lk_names.specs.declared.events.What.TheVariants.{Take, Release}
-use Rattle.lk_word.specs.declared.spin_word.NodeName.{NodeName}
-use Rattle.lk_word.specs.declared.spin_word.Fields.{Fields}
-use Rattle.lk_word.specs.declared.spin_word.Locked.TheVariants.{Free, Held}
-use Rattle.lk_rows.specs.declared.parts.Node.{Node}
-use Rattle.lk_rows.specs.Machine.{rest_node}
-use Rattle.lk_law.specs.Pv.{at_halt}
-use Rattle.lk_law.proofs.pv.Keep.{pv_keep}
-use Rattle.lk_law.specs.Phase.{Phase, has_node, has_lock, seeks, pends, claims, watches, stakes}
-use Rattle.lk_law.specs.Phase.{queues}
-use Rattle.lk_law.specs.Phase.Phase.{Idle, Seeks, Releases, Prepared}
-use Rattle.lk_law.specs.Snapshot.{Snapshot, PendingAgrees, NodesAgree, spins}
-use Rattle.lk_law.specs.Agree.{SnapshotAgrees, Step, Stays, LeavesSlowPath, Knows, halts, Owed}
-use Rattle.lk_law.specs.Agree.{node_state, ParaAgrees}
-use Rattle.lk_law.proofs.common.Cases.{waiter_cases, lock_cases}
-use Rattle.lk_law.proofs.spin.Hold.{hold_keep, hold_take, hold_drop}
-use Rattle.lk_law.proofs.spin.Pend.{pend_keep, pend_still}
-use Rattle.lk_law.specs.Cna.{ListsAgree, moves_aside}
-use Rattle.lk_law.proofs.common.Before.{nodes_apart}
+use Rattle.lk_law.proofs.Names.{Fields, Free, Held, NodeName, LockHistory, taken, told, with_holder}
+use Rattle.lk_law.proofs.Names.{Event, How, Release, Take, Spins, LockName, Waiter, rest_node, Node}
+use Rattle.lk_law.proofs.Names.{Knows, LeavesSlowPath, Owed, ParaAgrees, SnapshotAgrees, Stays}
+use Rattle.lk_law.proofs.Names.{Step, halts, node_state, ListsAgree, moves_aside, Phase, claims}
+use Rattle.lk_law.proofs.Names.{has_lock, has_node, pends, queues, seeks, stakes, watches, Idle}
+use Rattle.lk_law.proofs.Names.{Prepared, Releases, Seeks, at_halt, NodesAgree, PendingAgrees}
+use Rattle.lk_law.proofs.Names.{Snapshot, spins}
+use Rattle.lk_law.proofs.{common.Before.nodes_apart, common.Cases.{waiter_cases, lock_cases}}
 use Rattle.lk_law.proofs.common.Families.{lists_keep, lists_rest, lists_none}
 use Rattle.lk_law.proofs.common.Frame.{queue_node, nodes_stay, nodes_leave, agrees_after, no_posts}
 use Rattle.lk_law.proofs.common.Told.{told_lock, told_others, sole_taken, sole_freed}
+use Rattle.lk_law.proofs.{pv.Keep.pv_keep, spin.Hold.{hold_keep, hold_take, hold_drop}}
+use Rattle.lk_law.proofs.spin.Pend.{pend_keep, pend_still}
 
 -- every node is as before
 abbrev pub SameNodes : Snapshot → Snapshot → Type 0

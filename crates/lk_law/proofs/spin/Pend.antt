@@ -1,11 +1,8 @@
 -- Who has set the pending bit and who may take the free lock, where one waiter goes to another
 -- phase.
 use Rattle.std.proofs.Common.{◌≡◌, ◌≢◌, Bool, true, false, arith}
-use Rattle.lk_names.specs.declared.names.Waiter.{Waiter}
-use Rattle.lk_word.specs.declared.spin_word.Locked.{Locked}
-use Rattle.lk_word.specs.declared.spin_word.Locked.TheVariants.{Free}
-use Rattle.lk_law.specs.Phase.{Phase, pends, claims, watches, stakes}
-use Rattle.lk_law.specs.Snapshot.{Moves, PendingAgrees}
+use Rattle.lk_law.proofs.Names.{Locked, Free, Waiter, Phase, claims, pends, stakes, watches, Moves}
+use Rattle.lk_law.proofs.Names.{PendingAgrees}
 use Rattle.lk_law.proofs.common.Cases.{waiter_cases}
 
 module _ {locked : Locked} {pending : Bool} {phase phase' : Waiter

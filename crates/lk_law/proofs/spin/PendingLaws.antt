@@ -1,23 +1,16 @@
 -- The laws of the pending bit: it is set, cleared again, watched, and the lock is taken by it.
 use Rattle.std.proofs.Common.{◌≡◌, ◌≢◌, Some, None, Bool, true, false, inl, inr, arith, refl}
-use Rattle.lk_names.specs.History.{LockHistory, told}
-use Rattle.lk_names.specs.declared.names.Waiter.{Waiter}
-use Rattle.lk_names.specs.declared.names.LockName.{LockName}
-use Rattle.lk_names.specs.declared.events.Event.{Event}
+use Rattle.lk_law.proofs.Names.{Locked, Free, Held, LockHistory, told, Event, Take, LockName}
+use Rattle.lk_law.proofs.Names.{Waiter, SnapshotAgrees, Stays, Step, halts, Phase, claims, has_lock}
+use Rattle.lk_law.proofs.Names.{has_node, pends, queues, stakes, watches, Claims, Idle, Seeks}
+use Rattle.lk_law.proofs.Names.{PendingAgrees, Snapshot}
 use Rattle.lk_names.specs.declared.events.How.TheVariants.{Pending}
-use Rattle.lk_names.specs.declared.events.What.TheVariants.{Take}
-use Rattle.lk_word.specs.declared.spin_word.Locked.{Locked}
-use Rattle.lk_word.specs.declared.spin_word.Locked.TheVariants.{Free, Held}
-use Rattle.lk_law.specs.Phase.{Phase, has_node, has_lock, pends, claims, watches, stakes, queues}
-use Rattle.lk_law.specs.Phase.Phase.{Idle, Seeks, Undoes, Watches, Claims}
-use Rattle.lk_law.specs.Snapshot.{Snapshot, PendingAgrees}
-use Rattle.lk_law.specs.Agree.{SnapshotAgrees, Step, Stays, halts}
-use Rattle.lk_law.proofs.spin.Hold.{hold_keep, hold_take}
-use Rattle.lk_law.proofs.spin.Pend.{pend_keep, pend_set, pend_clear}
-use Rattle.lk_law.proofs.common.Families.{lists_none}
-use Rattle.lk_law.proofs.common.Frame.{agrees_after, no_posts}
+use Rattle.lk_law.proofs.{common.Families.lists_none, common.Frame.{agrees_after, no_posts}}
 use Rattle.lk_law.proofs.common.Told.{told_lock, told_others, sole_taken}
+use Rattle.lk_law.proofs.spin.Hold.{hold_keep, hold_take}
 use Rattle.lk_law.proofs.spin.Laws.{SameNodes, lists_outside, noded_keep, claim_cases}
+use Rattle.lk_law.proofs.spin.Pend.{pend_keep, pend_set, pend_clear}
+use Rattle.lk_law.specs.Phase.Phase.{Undoes, Watches}
 
 -- what a phase that has set the pending bit is not
 pends_unnoded : (r : Phase) → pends r ≡ true → queues r ≡ false → has_node r ≡ false

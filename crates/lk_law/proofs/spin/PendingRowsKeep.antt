@@ -1,34 +1,21 @@
 -- The rows of the pending path keep every sound world.
 use Rattle.std.proofs.Common.{◌≡◌, Option, Some, None, true, false, [], arith, ap, refl, sym, ◌∙◌}
-use Rattle.std.specs.Prelude.{if◌then◌else◌, is_some}
-use Rattle.lk_names.specs.declared.names.Mode.{Mode}
-use Rattle.lk_names.specs.declared.holder.Manner.TheVariants.{Spins}
-use Rattle.lk_names.specs.declared.events.How.TheVariants as how
-use Rattle.lk_names.specs.declared.events.What.TheVariants.{Take}
-use Rattle.lk_word.specs.declared.spin_word.Locked.TheVariants.{Free, Held}
-use Rattle.lk_word.specs.declared.spin_word.Fields.{Fields}
-use Rattle.lk_rows.specs.declared.parts.Frame.{Frame}
-use Rattle.lk_rows.specs.declared.parts.Pc.{Pc}
-use Rattle.lk_rows.specs.declared.parts.Pc.TheVariants.{P1, P2, P3, P4, G1}
-use Rattle.lk_rows.specs.Row.{Nothing, Says, Goes, Granted}
-use Rattle.lk_rows.specs.rows.Spin.{is_unlocked}
-use Rattle.lk_law.specs.Phase.{has_node, seeks}
-use Rattle.lk_law.specs.Phase.Phase.{Seeks, Undoes, Watches, Claims}
-use Rattle.lk_law.specs.Steps.{put_word, led, lead_on}
-use Rattle.lk_law.specs.SpinLaws.{SpinRowKeeps}
+use Rattle.std.proofs.Common.{if◌then◌else◌, is_some}
+use Rattle.lk_law.proofs.Names.{Fields, Free, Held, Take, Spins, Mode, Goes, Granted, Nothing, Says}
+use Rattle.lk_law.proofs.Names.{Frame, Pc, G1, P1, P2, P3, P4, is_unlocked, has_node, seeks, Claims}
+use Rattle.lk_law.proofs.Names.{Seeks, SpinRowKeeps, lead_on, led, put_word}
+use Rattle.lk_law.proofs.common.Acting.{Acting, StandsAwake, Kept, spin_row_keeps, fit_here}
+use Rattle.lk_law.proofs.common.Acting.{phase_here, phase_shown, held_not, looks_kept}
+use Rattle.lk_law.proofs.common.Acting.{granted_place, going_step, going_stays, goes_kept, Ending}
+use Rattle.lk_law.proofs.common.Acting.{ending_step, ending_stays, ends_kept, LeadsTo, word_going}
+use Rattle.lk_law.proofs.common.Acting.{look_going, going_word, awake_here}
+use Rattle.lk_law.proofs.{common.Allowed.allow_claim, common.Puts.{if_cases, put_word-here}}
+use Rattle.lk_law.proofs.{common.TurnSteps.word_plain, common.Turns.word_turn}
 use Rattle.lk_law.proofs.spin.Laws.{law_turn, turn_on}
 use Rattle.lk_law.proofs.spin.PendingLaws.{law_pend, law_unpend, law_watch, law_claim}
-use Rattle.lk_law.proofs.common.Allowed.{allow_claim}
-use Rattle.lk_law.proofs.common.Puts.{if_cases, put_word-here}
-use Rattle.lk_law.proofs.common.Turns.{word_turn}
-use Rattle.lk_law.proofs.common.TurnSteps.{word_plain}
-use Rattle.lk_law.proofs.common.Acting.{Acting, StandsAwake, Kept, spin_row_keeps, fit_here}
-use Rattle.lk_law.proofs.common.Acting.{phase_here}
-use Rattle.lk_law.proofs.common.Acting.{phase_shown, held_not, looks_kept, granted_place}
-use Rattle.lk_law.proofs.common.Acting.{going_step, going_stays, goes_kept, Ending, ending_step}
-use Rattle.lk_law.proofs.common.Acting.{ending_stays, ends_kept, LeadsTo, word_going, look_going}
-use Rattle.lk_law.proofs.common.Acting.{going_word, awake_here}
 use Rattle.lk_law.proofs.spin.RowsKeep.{unlocked_free}
+use Rattle.lk_law.specs.Phase.Phase.{Undoes, Watches}
+use Rattle.lk_names.specs.declared.events.How.TheVariants as how
 
 pub none_is : {A : Type 0} (o : Option A) → is_some o ≡ false → o ≡ None
 none_is None h = refl

@@ -1,50 +1,25 @@
 -- The rows on a word that need no queue keep every sound world.
-use Rattle.lk_law.specs.Pv.Post.{Off}
 use Rattle.std.proofs.Common.{◌≡◌, ◌≢◌, inl, Option, Some, None, Bool, true, false, arith, ap, refl}
-use Rattle.std.proofs.Common.{sym, ◌∙◌}
-use Rattle.std.specs.Prelude.{if◌then◌else◌, is_some, ◌&&◌, not}
-use Rattle.lk_names.specs.Lawful.{IsOutside, TakesInOrder}
-use Rattle.lk_names.specs.History.{taken, with_holder}
-use Rattle.lk_names.specs.declared.holder.Manner.TheVariants.{Spins}
-use Rattle.lk_names.specs.declared.names.Mode.{Mode}
-use Rattle.lk_names.specs.declared.names.Mode.TheVariants.{Virt, Native, Cna, Pv}
-use Rattle.lk_names.specs.declared.events.How.{How}
-use Rattle.lk_names.specs.declared.events.How.TheVariants as how
-use Rattle.lk_names.specs.declared.events.What.TheVariants.{Take, Miss, Release}
-use Rattle.lk_word.specs.declared.spin_word.NodeName.{NodeName}
-use Rattle.lk_word.specs.declared.spin_word.Locked.{Locked}
-use Rattle.lk_word.specs.declared.spin_word.Locked.TheVariants.{Free, Held, Slow}
-use Rattle.lk_word.specs.declared.spin_word.Fields.{Fields}
-use Rattle.lk_rows.specs.declared.parts.Frame.{Frame}
-use Rattle.lk_rows.specs.declared.parts.Pc.{Pc}
-use Rattle.lk_rows.specs.declared.parts.Pc.TheVariants.{F1, T1, T2, U1, V1, V2, P0, P1, G1, G5}
-use Rattle.lk_rows.specs.declared.parts.Pc.TheVariants.{G11}
-use Rattle.lk_rows.specs.Moves.{node_of}
-use Rattle.lk_rows.specs.Row.{Effect, Says, Granted, Freed, Missed, looks, misses}
-use Rattle.lk_rows.specs.rows.Spin.{is_unlocked, is_free, held_word, takes, to_queue, after_fast}
-use Rattle.lk_law.specs.Phase.{has_node, seeks, queues}
-use Rattle.lk_law.specs.Phase.Phase.{Seeks, Releases}
-use Rattle.lk_law.specs.Families.{chooses}
-use Rattle.lk_law.specs.Registers.{is_unaware, hands_plainly}
-use Rattle.lk_law.specs.Places.{snapshot, phase_of, phase_at}
-use Rattle.lk_law.specs.Families.{is_slow}
-use Rattle.lk_law.specs.Places.{post_at}
-use Rattle.lk_law.specs.Steps.{put_word, led, lead_on, stores_word}
-use Rattle.lk_law.specs.Families.{may_halt}
-use Rattle.lk_law.specs.Agree.{halts}
-use Rattle.lk_law.specs.SpinLaws.{SpinRowKeeps}
-use Rattle.lk_law.proofs.spin.Laws.{law_turn, law_take, law_release, turn_misses}
-use Rattle.lk_law.proofs.common.Told.{law_miss}
-use Rattle.lk_law.proofs.common.Allowed.{allow_take, allow_miss, allow_release}
-use Rattle.lk_law.proofs.common.Puts.{if_cases, put_word-here}
-use Rattle.lk_law.proofs.common.Turns.{same_turn, word_turn}
-use Rattle.lk_law.proofs.common.TurnSteps.{word_plain}
-use Rattle.lk_law.proofs.common.Choices.{quiet_none}
+use Rattle.std.proofs.Common.{sym, ◌∙◌, if◌then◌else◌, is_some, ◌&&◌, not}
+use Rattle.lk_law.proofs.Names.{Fields, Locked, Free, Held, Slow, NodeName, taken, with_holder}
+use Rattle.lk_law.proofs.Names.{IsOutside, TakesInOrder, How, Miss, Release, Take, Spins, Mode, Cna}
+use Rattle.lk_law.proofs.Names.{Native, Pv, Virt, node_of, Effect, Freed, Granted, Missed, Says}
+use Rattle.lk_law.proofs.Names.{looks, misses, Frame, Pc, F1, G1, G5, G11, P0, P1, T1, T2, U1, V1}
+use Rattle.lk_law.proofs.Names.{V2, after_fast, held_word, is_free, is_unlocked, takes, to_queue}
+use Rattle.lk_law.proofs.Names.{halts, chooses, is_slow, may_halt, has_node, queues, seeks}
+use Rattle.lk_law.proofs.Names.{Releases, Seeks, phase_at, phase_of, post_at, snapshot, Off}
+use Rattle.lk_law.proofs.Names.{hands_plainly, is_unaware, SpinRowKeeps, lead_on, led, put_word}
+use Rattle.lk_law.proofs.Names.{stores_word}
 use Rattle.lk_law.proofs.common.Acting.{Acting, StandsAwake, Kept, spin_row_keeps, fit_here}
-use Rattle.lk_law.proofs.common.Acting.{phase_here}
-use Rattle.lk_law.proofs.common.Acting.{phase_shown, held_not, held_so, ReadAlike, looks_kept}
-use Rattle.lk_law.proofs.common.Acting.{granted_place, Ending, ending_step, ending_stays, ends_kept}
-use Rattle.lk_law.proofs.common.Acting.{awake_here, KeepsIn}
+use Rattle.lk_law.proofs.common.Acting.{phase_here, phase_shown, held_not, held_so, ReadAlike}
+use Rattle.lk_law.proofs.common.Acting.{looks_kept, granted_place, Ending, ending_step}
+use Rattle.lk_law.proofs.common.Acting.{ending_stays, ends_kept, awake_here, KeepsIn}
+use Rattle.lk_law.proofs.common.Allowed.{allow_take, allow_miss, allow_release}
+use Rattle.lk_law.proofs.{common.Choices.quiet_none, common.Puts.{if_cases, put_word-here}}
+use Rattle.lk_law.proofs.{common.Told.law_miss, common.TurnSteps.word_plain}
+use Rattle.lk_law.proofs.common.Turns.{same_turn, word_turn}
+use Rattle.lk_law.proofs.spin.Laws.{law_turn, law_take, law_release, turn_misses}
+use Rattle.lk_names.specs.declared.events.How.TheVariants as how
 
 -- what a row on the word makes of a sound world by its outcome
 abbrev pub WordKept : Acting → Effect Fields → Type 0

@@ -1,6 +1,7 @@
-use Rattle.lk_law.proofs.cna.Named.{second_tail_is_used, behind_is_used, first_is_used, chosen_waits_for_it}
-use Rattle.lk_law.proofs.running.Nodes.{free_node_keeps, fresh_is_free, prev_is_used, link_is_used}
+use Rattle.lk_law.proofs.cna.Named.{second_tail_is_used, behind_is_used, first_is_used}
+use Rattle.lk_law.proofs.cna.Named.{chosen_waits_for_it}
 use Rattle.lk_law.proofs.running.Links.{linked_is_used, passed_is_used}
+use Rattle.lk_law.proofs.running.Nodes.{free_node_keeps, fresh_is_free, prev_is_used, link_is_used}
 use Rattle.lk_law.proofs.running.Tells.{lead_goes_on}
 use Rattle.lk_law.proofs.domains.nodes_are_free.Goals as goal
 

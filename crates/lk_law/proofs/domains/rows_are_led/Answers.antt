@@ -1,5 +1,5 @@
-use Rattle.lk_law.proofs.running.Leads.{row_is_led, row_is_done}
 use Rattle.lk_law.proofs.running.Calm.{row_is_calm, node_comes_at_entry}
+use Rattle.lk_law.proofs.running.Leads.{row_is_led, row_is_done}
 use Rattle.lk_law.proofs.domains.rows_are_led.Goals as goal
 
 pub returns-clause-led : goal.returns-clause-led

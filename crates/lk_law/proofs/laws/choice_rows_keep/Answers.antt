@@ -1,10 +1,9 @@
+use Rattle.lk_law.proofs.cna.EndRowsKeep.{choice_hand_on_keeps, choice_flush_keeps}
+use Rattle.lk_law.proofs.cna.EndRowsKeep.{choice_promote_keeps}
 use Rattle.lk_law.proofs.cna.RowsKeep.{choice_look_keeps, choice_pass_over_keeps}
 use Rattle.lk_law.proofs.cna.RowsKeep.{choice_find_tail_keeps}
 use Rattle.lk_law.proofs.cna.StoreRowsKeep.{choice_append_keeps, choice_cut_keeps}
-use Rattle.lk_law.proofs.cna.StoreRowsKeep.{choice_set_tail_keeps}
-use Rattle.lk_law.proofs.cna.StoreRowsKeep.{choice_count_keeps}
-use Rattle.lk_law.proofs.cna.EndRowsKeep.{choice_hand_on_keeps, choice_flush_keeps}
-use Rattle.lk_law.proofs.cna.EndRowsKeep.{choice_promote_keeps}
+use Rattle.lk_law.proofs.cna.StoreRowsKeep.{choice_set_tail_keeps, choice_count_keeps}
 use Rattle.lk_law.proofs.laws.choice_rows_keep.Goals as goal
 
 pub returns-clause-look : goal.returns-clause-look

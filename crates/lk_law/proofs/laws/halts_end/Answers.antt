@@ -1,8 +1,8 @@
-use Rattle.lk_law.proofs.pv.Interrupts.{spin_interrupt_keeps}
-use Rattle.lk_law.proofs.pv.HaltLayers.{wake_keeps, nudge_keeps, int_keeps, interrupt_keeps}
 use Rattle.lk_law.proofs.common.Knows.{nobody_halts}
+use Rattle.lk_law.proofs.pv.HaltLayers.{wake_keeps, nudge_keeps, int_keeps, interrupt_keeps}
 use Rattle.lk_law.proofs.pv.HaltsEnd.{spin_wake_keeps, spin_nudge_keeps, spin_int_keeps}
 use Rattle.lk_law.proofs.pv.HaltsEnd.{roused_is_awake, top_is_awake}
+use Rattle.lk_law.proofs.pv.Interrupts.{spin_interrupt_keeps}
 use Rattle.lk_law.proofs.laws.halts_end.Goals as goal
 
 pub returns-clause-spin_wake : goal.returns-clause-spin_wake

@@ -1,9 +1,7 @@
-use Rattle.lk_law.proofs.pv.Interrupts.{interrupt_shows}
 use Rattle.lk_law.proofs.pv.HaltLayers.{fronts_are_owed}
-use Rattle.lk_law.proofs.pv.KicksShown.{every_row_shows}
-use Rattle.lk_law.proofs.pv.HaltsShown.{begin_shows, end_shows, wake_shows}
-use Rattle.lk_law.proofs.pv.HaltsShown.{nudge_shows, int_shows, int_awake_shows}
-use Rattle.lk_law.proofs.pv.HaltsShown.{spin_fronts_are_owed}
+use Rattle.lk_law.proofs.pv.HaltsShown.{begin_shows, end_shows, wake_shows, nudge_shows, int_shows}
+use Rattle.lk_law.proofs.pv.HaltsShown.{int_awake_shows, spin_fronts_are_owed}
+use Rattle.lk_law.proofs.{pv.Interrupts.interrupt_shows, pv.KicksShown.every_row_shows}
 use Rattle.lk_law.proofs.laws.kicks_are_shown.Goals as goal
 
 pub returns-clause-rows : goal.returns-clause-rows

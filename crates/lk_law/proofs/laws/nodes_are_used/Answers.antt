@@ -1,7 +1,6 @@
 use Rattle.lk_law.proofs.cna.Knows.{choice_is_used, skipped_is_queued, queue_is_distinct}
 use Rattle.lk_law.proofs.common.Knows.{halting_next_is_used, named_front_is_used, entry_is_used}
-use Rattle.lk_law.proofs.common.Knows.{tail_is_used, next_is_used}
-use Rattle.lk_law.proofs.common.Users.{node_is_ones}
+use Rattle.lk_law.proofs.{common.Knows.{tail_is_used, next_is_used}, common.Users.node_is_ones}
 use Rattle.lk_law.proofs.laws.nodes_are_used.Goals as goal
 
 pub returns-clause-tail : goal.returns-clause-tail

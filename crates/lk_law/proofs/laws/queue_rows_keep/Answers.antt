@@ -1,9 +1,9 @@
 use Rattle.lk_law.proofs.pv.SharedRowsKeep.{enter_keeps, exchange_tail_keeps, link_keeps}
+use Rattle.lk_law.proofs.queue.ArriveRowsKeep.{wait_keeps}
 use Rattle.lk_law.proofs.queue.EntryRowsKeep.{look_again_keeps, swap_again_keeps, look_bare_keeps}
 use Rattle.lk_law.proofs.queue.EntryRowsKeep.{swap_bare_keeps}
-use Rattle.lk_law.proofs.queue.ArriveRowsKeep.{wait_keeps}
-use Rattle.lk_law.proofs.queue.FrontRowsKeep.{wait_as_front_keeps, take_sole_keeps}
-use Rattle.lk_law.proofs.queue.FrontRowsKeep.{take_head_keeps, wait_for_next_keeps, hand_on_keeps}
+use Rattle.lk_law.proofs.queue.FrontRowsKeep.{wait_as_front_keeps, take_sole_keeps, take_head_keeps}
+use Rattle.lk_law.proofs.queue.FrontRowsKeep.{wait_for_next_keeps, hand_on_keeps}
 use Rattle.lk_law.proofs.laws.queue_rows_keep.Goals as goal
 
 pub returns-clause-enter : goal.returns-clause-enter

@@ -1,5 +1,4 @@
-use Rattle.lk_law.proofs.rw.Knows.{rw_row_knows}
-use Rattle.lk_law.proofs.rw.Few.{readers_are_few}
+use Rattle.lk_law.proofs.{rw.Few.readers_are_few, rw.Knows.rw_row_knows}
 use Rattle.lk_law.proofs.laws.rw_rows_know.Goals as goal
 
 pub returns-clause-rows : goal.returns-clause-rows

@@ -1,8 +1,8 @@
 use Rattle.lk_law.proofs.pv.SharedRowsKeep.{fast_keeps, try_look_keeps, try_swap_keeps}
+use Rattle.lk_law.proofs.spin.PendingRowsKeep.{set_pending_keeps, clear_pending_keeps, watch_keeps}
+use Rattle.lk_law.proofs.spin.PendingRowsKeep.{take_pending_keeps}
 use Rattle.lk_law.proofs.spin.RowsKeep.{release_keeps, loop_look_keeps, loop_swap_keeps}
 use Rattle.lk_law.proofs.spin.RowsKeep.{pending_look_again_keeps}
-use Rattle.lk_law.proofs.spin.PendingRowsKeep.{set_pending_keeps, clear_pending_keeps}
-use Rattle.lk_law.proofs.spin.PendingRowsKeep.{watch_keeps, take_pending_keeps}
 use Rattle.lk_law.proofs.laws.spin_rows_keep.Goals as goal
 
 pub returns-clause-fast : goal.returns-clause-fast
