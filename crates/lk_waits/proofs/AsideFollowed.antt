@@ -1,62 +1,29 @@
 -- Every row keeps it that a head of the family that moves waiters aside has one behind it, or a secondary
 -- queue that may return, or one is coming.
 use Rattle.std.proofs.Common.{◌≡◌, ◌≢◌, ◌⊎◌, ◌<◌, inl, inr, Option, Some, None, Bool, true, false}
-use Rattle.std.proofs.Common.{refl, sym, ap, ◌∙◌, subst, [], arith}
-use Rattle.std.proofs.lemmas.Bool.{cases_Bool}
-use Rattle.std.specs.Prelude.{if◌then◌else◌, is_some, ◌&&◌, not}
-use Rattle.lk_names.specs.Names.{same_waiter, same_lock}
-use Rattle.lk_names.specs.History.{LockHistory}
-use Rattle.lk_names.specs.declared.names.Waiter.{Waiter}
-use Rattle.lk_names.specs.declared.names.LockName.{LockName}
-use Rattle.lk_word.specs.declared.spin_word.NodeName.{NodeName}
-use Rattle.lk_word.specs.declared.spin_word.Fields.{Fields}
-use Rattle.lk_rows.specs.declared.parts.Flag.{Flag}
-use Rattle.lk_rows.specs.declared.parts.Frame.{Frame}
-use Rattle.lk_rows.specs.declared.parts.Pc.{Pc}
-use Rattle.lk_rows.specs.declared.parts.Pc.TheVariants.{P1, P2, P3}
-use Rattle.lk_rows.specs.declared.parts.Pc.TheVariants.{P4, G1, G4, G7, G8, G9}
-use Rattle.lk_rows.specs.declared.parts.Pc.TheVariants.{C1}
-use Rattle.lk_rows.specs.Moves.{is_node, node_of}
-use Rattle.lk_rows.specs.Row.{Effect, Goes}
-use Rattle.lk_rows.specs.rows.Spin.{is_unlocked, after_pending}
-use Rattle.lk_rows.specs.rows.Queue.{is_sole}
-use Rattle.lk_rows.specs.rows.Queue.{queue_row}
-use Rattle.lk_rows.specs.TopRow.{target}
-use Rattle.lk_law.specs.Agree.{halts}
-use Rattle.lk_law.specs.Cna.{moves_aside}
-use Rattle.lk_law.specs.Families.{may_halt}
-use Rattle.lk_law.specs.Leads.{stored_in}
-use Rattle.lk_law.specs.Phase.{Phase, pends, watches, stakes, claims}
-use Rattle.lk_word.specs.declared.spin_word.Locked.TheVariants.{Free, Held}
-use Rattle.lk_law.specs.Phase.Phase.{Idle}
-use Rattle.lk_law.specs.Places.{snapshot, phase_at, phase_if, phase_on}
-use Rattle.lk_law.specs.Premises.{IsThen, Uses}
-use Rattle.lk_law.specs.SpinWorld.{IsSoundSpinWorld}
-use Rattle.lk_law.specs.Steps.{led, row_in, stores_word, stores_next}
-use Rattle.lk_law.specs.World.{World}
-use Rattle.lk_law.proofs.common.Cases.{waiter_cases, lock_cases}
-use Rattle.lk_law.proofs.common.Puts.{if-true, if-false, not-true, same_waiter-else}
-use Rattle.lk_law.proofs.common.Sames.{same_waiter-self, same_lock-self}
-use Rattle.lk_law.proofs.common.Users.{is_node-own, node_is_ones}
-use Rattle.lk_law.proofs.common.Worlds.{phase_on-here}
-use Rattle.lk_law.proofs.running.Leads.{row_is_done}
-use Rattle.lk_rows.specs.declared.parts.Pc.TheVariants.{C2, C3, C4, C5, C7, C9, C10}
-use Rattle.lk_rows.specs.declared.parts.Why.{Why}
-use Rattle.lk_rows.specs.declared.parts.Why.TheVariants as why
+use Rattle.std.proofs.Common.{refl, sym, ap, ◌∙◌, subst, [], arith, if◌then◌else◌, is_some, ◌&&◌}
+use Rattle.std.proofs.Common.{not, ◌∷◌, ◌+◌, slice_get}
+use Rattle.lk_waits.proofs.Names.{cases_Bool, Fields, Free, Held, NodeName, LockHistory, same_lock}
+use Rattle.lk_waits.proofs.Names.{same_waiter, LockName, Waiter, is_node, node_of, Effect, Goes}
+use Rattle.lk_waits.proofs.Names.{target, Flag, Frame, Pc, C1, C2, C3, C4, C5, C7, C9, C10, G1, G4}
+use Rattle.lk_waits.proofs.Names.{G7, G8, G9, P1, P2, P3, P4, Why, after_tail, is_last, may_stay}
+use Rattle.lk_waits.proofs.Names.{promotion_row, search_first, search_on, search_row, is_sole}
+use Rattle.lk_waits.proofs.Names.{queue_row, is_unlocked, lock_cases, waiter_cases, lists_front}
+use Rattle.lk_waits.proofs.Names.{row_knows, if-false, if-true, not-true, same_waiter-else}
+use Rattle.lk_waits.proofs.Names.{same_lock-self, same_waiter-self, is_node-own, node_is_ones}
+use Rattle.lk_waits.proofs.Names.{phase_on-here, row_is_done, halts, moves_aside, may_halt}
+use Rattle.lk_waits.proofs.Names.{stored_in, Phase, leads, pends, Idle, phase_at, phase_if}
+use Rattle.lk_waits.proofs.Names.{phase_on, snapshot, IsThen, Uses, IsSoundSpinWorld, led, row_in}
+use Rattle.lk_waits.proofs.Names.{sight_in, stores_next, stores_word, World, is_alone_row}
+use Rattle.lk_waits.proofs.Names.{SomebodyComesBy, comes_by}
 use Rattle.lk_rows.specs.Row.{learns_all, K, Y, A, B, Reason, Second, gone}
-use Rattle.std.proofs.Common.{◌∷◌, ◌+◌}
-use Rattle.lk_rows.specs.rows.Cna.{is_last, search_first, search_on, search_row, after_tail, may_stay, promotion_row}
-use Rattle.lk_law.specs.Steps.{sight_in}
-use Rattle.lk_law.specs.Phase.{leads}
-use Rattle.lk_law.proofs.common.Families.{lists_front}
-use Rattle.lk_law.proofs.common.Knows.{row_knows}
-use Rattle.std.proofs.Common.{slice_get}
-use Rattle.lk_waits.specs.Order.{SomebodyComesBy, comes_by}
-use Rattle.lk_waits.specs.Aside.{IsFollowedAsideBy, is_alone_row, RowKeepsAside, RowKeepsLedAside}
-use Rattle.lk_waits.proofs.Tops.{busy_at}
-use Rattle.lk_waits.proofs.Tails.{tails, arrived, next_frame, comes_on}
-use Rattle.lk_waits.proofs.AsideWords.{words_kept, elsewhere_any}
+use Rattle.lk_rows.specs.rows.Spin.{after_pending}
+use Rattle.lk_law.specs.Phase.{watches, stakes, claims}
 use Rattle.lk_waits.proofs.AsideMute.{tells, Mute, mute, after}
+use Rattle.lk_waits.proofs.AsideWords.{words_kept, elsewhere_any}
+use Rattle.lk_waits.proofs.{Tails.{tails, arrived, next_frame, comes_on}, Tops.busy_at}
+use Rattle.lk_waits.specs.Aside.{IsFollowedAsideBy, RowKeepsAside, RowKeepsLedAside}
+use Rattle.lk_rows.specs.declared.parts.Why.TheVariants as why
 
 mute_not : (o : Option Pc) (d : Pc) → Mute o → o ≡ Some d → tells (Some d) ≡ true → ⊥
 mute_not o d h e t = let z = ap tells e in cc (z, h, t)

@@ -1,37 +1,15 @@
 -- What rows do to the words of locks, where waiters are moved aside.
 use Rattle.std.proofs.Common.{◌≡◌, ◌≢◌, ◌⊎◌, inl, inr, ℕ, Option, Some, None, Bool, true, false}
-use Rattle.std.proofs.Common.{refl, sym, ◌∙◌, subst}
-use Rattle.std.specs.Prelude.{if◌then◌else◌}
-use Rattle.lk_names.specs.Names.{same_lock}
-use Rattle.lk_names.specs.declared.names.Waiter.{Waiter}
-use Rattle.lk_names.specs.declared.names.LockName.{LockName}
-use Rattle.lk_word.specs.declared.spin_word.NodeName.{NodeName}
-use Rattle.lk_word.specs.declared.spin_word.Fields.{Fields}
-use Rattle.lk_word.specs.declared.rw_word.RwFields.{RwFields}
-use Rattle.lk_rows.specs.declared.parts.Flag.{Flag}
-use Rattle.lk_rows.specs.declared.parts.Frame.{Frame}
-use Rattle.lk_rows.specs.declared.parts.Pc.{Pc}
-use Rattle.lk_rows.specs.declared.parts.Pc.TheVariants.{F1, T1, T2, U1, V1, V2, P0, P1, P2, P3}
-use Rattle.lk_rows.specs.declared.parts.Pc.TheVariants.{P4, G1, G2, G3, G4, G5, G6, G7, G8, G9}
-use Rattle.lk_rows.specs.declared.parts.Pc.TheVariants.{G10, G11, N1, N2, C1}
-use Rattle.lk_rows.specs.declared.parts.Pc.TheVariants.{R1, R2, R3, R4, R5, Wr1, Wr2, Wr3, Wr4}
-use Rattle.lk_rows.specs.declared.parts.Pc.TheVariants.{Wr5, Wr6, Y1, Y2, Y3, Y4, Y5, Z1, Z2}
-use Rattle.lk_rows.specs.Moves.{node_of}
-use Rattle.lk_rows.specs.Row.{Effect}
-use Rattle.lk_rows.specs.rows.Spin.{is_free}
-use Rattle.lk_rows.specs.rows.Queue.{is_sole}
-use Rattle.lk_rows.specs.rows.Queue.{entry_row, next_row, flag_row}
-use Rattle.lk_rows.specs.rows.Cna.{search_row, second_row, runs_row, handover_row}
-use Rattle.lk_law.specs.Steps.{sight_in}
-use Rattle.lk_rows.specs.declared.parts.Pc.TheVariants.{C2, C3, C4, C5, C6, C7, C8, C9, C10}
-use Rattle.lk_rows.specs.rows.Rw.{rw_row}
-use Rattle.lk_rows.specs.TopRow.{target}
-use Rattle.lk_law.specs.Families.{may_halt}
-use Rattle.lk_law.specs.Leads.{stored_in}
-use Rattle.lk_law.specs.World.{World}
-use Rattle.lk_law.proofs.common.Cases.{lock_cases}
-use Rattle.lk_law.proofs.common.Puts.{if-true, if-false, same_lock-else}
-use Rattle.lk_law.proofs.common.Sames.{same_lock-self}
+use Rattle.std.proofs.Common.{refl, sym, ◌∙◌, subst, if◌then◌else◌}
+use Rattle.lk_waits.proofs.Names.{RwFields, Fields, NodeName, same_lock, LockName, Waiter, node_of}
+use Rattle.lk_waits.proofs.Names.{Effect, target, Flag, Frame, Pc, C1, C2, C3, C4, C5, C6, C7, C8}
+use Rattle.lk_waits.proofs.Names.{C9, C10, F1, G1, G2, G3, G4, G5, G6, G7, G8, G9, G10, G11, N1, N2}
+use Rattle.lk_waits.proofs.Names.{P0, P1, P2, P3, P4, R1, R2, R3, R4, R5, T1, T2, U1, V1, V2, Wr1}
+use Rattle.lk_waits.proofs.Names.{Wr2, Wr3, Wr4, Wr5, Wr6, Y1, Y2, Y3, Y4, Y5, Z1, Z2, runs_row}
+use Rattle.lk_waits.proofs.Names.{search_row, second_row, entry_row, flag_row, is_sole, next_row}
+use Rattle.lk_waits.proofs.Names.{rw_row, is_free, lock_cases, if-false, if-true, same_lock-else}
+use Rattle.lk_waits.proofs.Names.{same_lock-self, may_halt, stored_in, sight_in, World}
+use Rattle.lk_rows.specs.rows.Cna.{handover_row}
 
 -- a store that leaves the tail, and pending or not pending; or leaves no tail
 abbrev pub Like : Fields → Fields → Type 0

@@ -1,43 +1,23 @@
 -- What every row keeps of those that wait, in whichever family.
-use Rattle.std.proofs.Common.{◌≡◌, ◌≢◌, inl, inr, ℕ, zero, suc, ◌≤◌, Option, Some, None, Bool, true, false}
-use Rattle.std.proofs.Common.{refl, sym, ap, ◌∙◌, subst, arith}
-use Rattle.std.proofs.lemmas.Bool.{cases_Bool, cases_lt, cases_eq}
-use Rattle.std.specs.Prelude.{if◌then◌else◌, is_some}
-use Rattle.lk_names.specs.Names.{same_waiter}
-use Rattle.lk_names.specs.History.{LockHistory}
-use Rattle.lk_names.specs.declared.names.Mode.{Mode}
-use Rattle.lk_names.specs.declared.names.Waiter.{Waiter}
-use Rattle.lk_names.specs.declared.names.LockName.{LockName}
-use Rattle.lk_word.specs.declared.spin_word.NodeName.{NodeName}
-use Rattle.lk_rows.specs.declared.parts.Frame.{Frame}
-use Rattle.lk_rows.specs.declared.parts.Pc.{Pc}
-use Rattle.lk_rows.specs.declared.parts.Pc.TheVariants.{G1, N1, N2}
-use Rattle.lk_rows.specs.rows.Pv.{is_set}
-use Rattle.lk_rows.specs.rows.Queue.{own_node, after_entry}
-use Rattle.lk_rows.specs.TopRow.{target}
-use Rattle.lk_law.specs.Agree.{halts}
-use Rattle.lk_law.specs.Cna.{moves_aside}
-use Rattle.lk_law.specs.Families.{may_halt, is_slow}
-use Rattle.lk_law.specs.Places.{slow_in}
-use Rattle.lk_law.specs.Premises.{IsThen, IsNewest, roused}
-use Rattle.lk_law.specs.Snapshot.{before}
-use Rattle.lk_law.specs.SpinWorld.{HasNoneAbove, IsSoundSpinWorld}
-use Rattle.lk_law.specs.Steps.{row_in, put_kicked}
-use Rattle.lk_law.specs.World.{World}
+use Rattle.std.proofs.Common.{◌≡◌, ◌≢◌, inl, inr, ℕ, zero, suc, ◌≤◌, Option, Some, None, Bool, true}
+use Rattle.std.proofs.Common.{false, refl, sym, ap, ◌∙◌, subst, arith, is_some}
+use Rattle.std.proofs.lemmas.Bool.{cases_eq}
+use Rattle.lk_waits.proofs.Names.{cases_Bool, cases_lt, NodeName, LockHistory, same_waiter}
+use Rattle.lk_waits.proofs.Names.{LockName, Mode, Waiter, target, Frame, Pc, G1, N1, N2, is_set}
+use Rattle.lk_waits.proofs.Names.{after_entry, own_node, waiter_cases, if-false, if-true, not-true}
+use Rattle.lk_waits.proofs.Names.{same_waiter-else, same_waiter-self, row_is_done, halts}
+use Rattle.lk_waits.proofs.Names.{moves_aside, may_halt, IsNewest, IsThen, HasNoneAbove}
+use Rattle.lk_waits.proofs.Names.{IsSoundSpinWorld, row_in, World}
 use Rattle.lk_law.proofs.common.Before.{before_top}
-use Rattle.lk_law.proofs.common.Cases.{waiter_cases}
-use Rattle.lk_law.proofs.common.Puts.{if-true, if-false, not-true, same_waiter-else}
-use Rattle.lk_law.proofs.common.Sames.{same_waiter-self}
-use Rattle.lk_law.proofs.running.Leads.{row_is_done}
+use Rattle.lk_law.specs.{Families.is_slow, Places.slow_in, Premises.roused, Snapshot.before}
+use Rattle.lk_law.specs.Steps.{put_kicked}
+use Rattle.lk_waits.proofs.{AsideFollowed.row_keeps_led_aside, Followed.row_keeps_led}
+use Rattle.lk_waits.proofs.{HaltEnds.ends_keep_served, HeadServed.row_keeps_served}
+use Rattle.lk_waits.proofs.Quiet.{IsQuietRow, IsQuietFrame, ChangesQuietly, heads_stay_led}
+use Rattle.lk_waits.proofs.Quiet.{aside_stay, heads_stay_served, bare_was, rests_led}
+use Rattle.lk_waits.proofs.{Quiet.{rests_aside_by, rests_served}, Tails.next_frame}
 use Rattle.lk_waits.specs.Attended.{is_bare, IsDeep, IsAttended, RowKeepsAttended}
-use Rattle.lk_waits.proofs.AsideFollowed.{row_keeps_led_aside}
-use Rattle.lk_waits.proofs.Followed.{row_keeps_led}
-use Rattle.lk_waits.proofs.HaltEnds.{ends_keep_served}
-use Rattle.lk_waits.proofs.HeadServed.{row_keeps_served}
 use Rattle.lk_waits.proofs.Noded as nodeless
-use Rattle.lk_waits.proofs.Quiet.{IsQuietRow, IsQuietFrame, ChangesQuietly, heads_stay_led, aside_stay, heads_stay_served}
-use Rattle.lk_waits.proofs.Quiet.{bare_was, rests_led, rests_aside_by, rests_served}
-use Rattle.lk_waits.proofs.Tails.{next_frame}
 
 -- no more waiters are in the slow path below a context than there are contexts
 few_before : (slow : Waiter → Bool) (p c : ℕ) → before slow p c ≤ c

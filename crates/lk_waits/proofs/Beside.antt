@@ -1,34 +1,13 @@
 -- A row keeps it for the heads of other waiters.
 use Rattle.std.proofs.Common.{◌≡◌, ◌≢◌, ◌⊎◌, ◌<◌, inl, inr, Option, Some, None, Bool, true, false}
-use Rattle.std.proofs.Common.{refl, sym, ap, ◌∙◌, arith}
-use Rattle.std.specs.Prelude.{is_some}
-use Rattle.lk_names.specs.Names.{same_waiter}
-use Rattle.lk_names.specs.History.{LockHistory}
-use Rattle.lk_names.specs.declared.names.Waiter.{Waiter}
-use Rattle.lk_names.specs.declared.names.LockName.{LockName}
-use Rattle.lk_word.specs.declared.spin_word.NodeName.{NodeName}
-use Rattle.lk_word.specs.declared.spin_word.Fields.{Fields}
-use Rattle.lk_rows.specs.declared.parts.Frame.{Frame}
-use Rattle.lk_rows.specs.declared.parts.Pc.{Pc}
-use Rattle.lk_rows.specs.declared.parts.Pc.TheVariants.{G1, G4}
-use Rattle.lk_rows.specs.Moves.{is_node, node_of}
-use Rattle.lk_rows.specs.TopRow.{target}
-use Rattle.lk_law.specs.Agree.{halts}
-use Rattle.lk_law.specs.Cna.{moves_aside}
-use Rattle.lk_law.specs.Families.{may_halt, chooses}
-use Rattle.lk_law.specs.Leads.{stored_in}
-use Rattle.lk_law.specs.Phase.{Phase}
-use Rattle.lk_law.specs.Places.{phase_at, phase_if}
-use Rattle.lk_law.specs.Premises.{IsThen, Uses}
-use Rattle.lk_law.specs.SpinWorld.{IsSoundSpinWorld}
-use Rattle.lk_law.specs.Steps.{row_in}
-use Rattle.lk_law.specs.World.{World}
-use Rattle.lk_law.proofs.common.Cases.{waiter_cases, lock_cases}
-use Rattle.lk_law.proofs.common.Puts.{if-true, if-false, not-true, same_waiter-else}
-use Rattle.lk_law.proofs.common.Sames.{same_waiter-self}
-use Rattle.lk_law.proofs.common.Users.{is_node-own, node_is_ones}
-use Rattle.lk_law.proofs.running.Leads.{row_is_done}
-use Rattle.lk_waits.specs.Order.{SomebodyComesBy, IsFollowedBy, comes_by, is_led_on}
+use Rattle.std.proofs.Common.{refl, sym, ap, ◌∙◌, arith, is_some}
+use Rattle.lk_waits.proofs.Names.{Fields, NodeName, LockHistory, same_waiter, LockName, Waiter}
+use Rattle.lk_waits.proofs.Names.{is_node, node_of, target, Frame, Pc, G1, G4, lock_cases}
+use Rattle.lk_waits.proofs.Names.{waiter_cases, if-false, if-true, not-true, same_waiter-else}
+use Rattle.lk_waits.proofs.Names.{same_waiter-self, is_node-own, node_is_ones, row_is_done, halts}
+use Rattle.lk_waits.proofs.Names.{moves_aside, chooses, may_halt, stored_in, phase_at}
+use Rattle.lk_waits.proofs.Names.{phase_if, IsThen, Uses, IsSoundSpinWorld, row_in, World}
+use Rattle.lk_waits.proofs.Names.{IsFollowedBy, SomebodyComesBy, comes_by, is_led_on}
 use Rattle.lk_waits.proofs.Tails.{tails, arrived, elsewhere, next_frame, comes_on}
 
 module _ (m : World) (hs : LockName → LockHistory) (w : Waiter) (f : Frame) (ok : IsSoundSpinWorld m hs)

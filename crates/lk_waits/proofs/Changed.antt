@@ -1,29 +1,20 @@
 -- What a row makes of a world, as far as the laws of progress read it: its words, flags and kicks are those
 -- of its store, and its frame goes where it leads, or on to the next operation.
-use Rattle.std.proofs.Common.{◌≡◌, ◌≢◌, ◌⊎◌, inl, inr, ℕ, Option, Some, None, Bool, true, false, sym, ap, ◌∙◌, subst}
-use Rattle.lk_names.specs.Names.{same_waiter}
-use Rattle.lk_names.specs.declared.names.Waiter.{Waiter}
-use Rattle.lk_names.specs.declared.names.LockName.{LockName}
-use Rattle.lk_word.specs.declared.spin_word.NodeName.{NodeName}
-use Rattle.lk_word.specs.declared.spin_word.Fields.{Fields}
+use Rattle.std.proofs.Common.{◌≡◌, ◌≢◌, ◌⊎◌, inl, inr, ℕ, Option, Some, None, Bool, true, false}
+use Rattle.std.proofs.Common.{sym, ap, ◌∙◌, subst}
+use Rattle.lk_waits.proofs.Names.{Fields, NodeName, same_waiter, LockName, Waiter, Goes, Lead}
+use Rattle.lk_waits.proofs.Names.{ChoiceFlag, ChoiceNext, ChoiceWord, FlagOf, Halted, HashEntry}
+use Rattle.lk_waits.proofs.Names.{KickOf, NextOf, PvFlag, PvNext, PvWord, QueueWord, Queued, RunsOf}
+use Rattle.lk_waits.proofs.Names.{RwWord, SecondTailOf, SpinWord, StateOf, Target, target, Frame}
+use Rattle.lk_waits.proofs.Names.{Pc, is_set, if-false, if-true, same_waiter-else, same_waiter-self}
+use Rattle.lk_waits.proofs.Names.{row_is_done, course_in, stored_in, led, row_in, World}
+use Rattle.lk_rows.specs.{Acts.after_halt, Machine.rest_node}
+use Rattle.lk_rows.specs.Row.{Enters, Granted, Freed, Missed, Done, TakesWait, Leaves, Yields}
 use Rattle.lk_rows.specs.declared.parts.Node.{Node}
-use Rattle.lk_rows.specs.declared.parts.Frame.{Frame}
-use Rattle.lk_rows.specs.declared.parts.Pc.{Pc}
-use Rattle.lk_rows.specs.Acts.{after_halt}
-use Rattle.lk_rows.specs.rows.Pv.{is_set}
-use Rattle.lk_rows.specs.Machine.{rest_node}
-use Rattle.lk_rows.specs.Row.{Lead, Goes, Enters, Granted, Freed, Missed, Done, TakesWait, Leaves, Yields}
-use Rattle.lk_rows.specs.TopRow.{Target, SpinWord, QueueWord, Queued, FlagOf, NextOf, ChoiceWord, target}
-use Rattle.lk_rows.specs.TopRow.{ChoiceFlag, ChoiceNext, SecondTailOf, RunsOf, PvWord, PvFlag, PvNext, StateOf}
-use Rattle.lk_rows.specs.TopRow.{HashEntry, Halted, KickOf, RwWord}
-use Rattle.lk_law.specs.Leads.{Course, RowDone, course_in, course_on, stored_in}
-use Rattle.lk_law.specs.Snapshot.{same_node}
-use Rattle.lk_law.specs.Steps.{Made, led, lead_on, reset, row_in}
-use Rattle.lk_law.specs.World.{World}
-use Rattle.lk_law.proofs.common.Cases.{node_cases}
-use Rattle.lk_law.proofs.common.Puts.{if-true, if-false, same_waiter-else, same_node-self, same_node-else}
-use Rattle.lk_law.proofs.common.Sames.{same_waiter-self}
-use Rattle.lk_law.proofs.running.Leads.{row_is_done, row_is_led}
+use Rattle.lk_law.proofs.{common.Cases.node_cases, common.Puts.{same_node-self, same_node-else}}
+use Rattle.lk_law.proofs.running.Leads.{row_is_led}
+use Rattle.lk_law.specs.{Leads.{Course, RowDone, course_on}, Snapshot.same_node}
+use Rattle.lk_law.specs.Steps.{Made, lead_on, reset}
 use Rattle.lk_waits.proofs.Quiet.{IsQuietFrame, ChangesQuietly, placeless_quiet}
 
 -- the frame of w after its row at c

@@ -1,44 +1,26 @@
 -- Whoever polls for a lock waits for another that polls for a lock of a higher level.
-use Rattle.std.proofs.Common.{◌≡◌, ◌≢◌, ◌⊎◌, inl, inr, ℕ, zero, suc, ◌≤◌, ◌+◌, Option, Some, None, Bool, true}
-use Rattle.std.proofs.Common.{false, refl, sym, ap, ◌∙◌, subst, arith, List, [], ◌∷◌, slice_get}
-use Rattle.std.specs.Prelude.{is_some, ◌&&◌, not}
-use Rattle.lk_names.specs.History.{LockHistory}
-use Rattle.lk_names.specs.declared.holder.Manner.TheVariants.{Spins}
-use Rattle.lk_names.specs.declared.names.Kind.TheVariants.{Rw}
-use Rattle.lk_names.specs.declared.names.Waiter.{Waiter}
-use Rattle.lk_names.specs.declared.names.LockName.{LockName}
-use Rattle.lk_word.specs.declared.spin_word.NodeName.{NodeName}
-use Rattle.lk_rows.specs.declared.parts.Frame.{Frame}
-use Rattle.lk_rows.specs.declared.parts.Pc.{Pc}
-use Rattle.lk_rows.specs.declared.parts.Pc.TheVariants.{V1, P3, G6, G7, G10, N1, R2, R5, Wr5}
-use Rattle.lk_rows.specs.Moves.{is_node, node_of, rw_name}
-use Rattle.lk_rows.specs.rows.Spin.{is_free, is_unlocked}
-use Rattle.lk_law.specs.Agree.{LockAgrees, halts}
-use Rattle.lk_law.specs.Cna.{moves_aside, FlatAgrees}
-use Rattle.lk_law.specs.Families.{may_halt, chooses}
-use Rattle.lk_law.specs.Phase.{Phase, pends, queues, leads}
-use Rattle.lk_law.specs.Phase.Phase.{Idle, Holds}
-use Rattle.lk_law.specs.Places.{snapshot, phase_at, phase_if, phase_on, own_in}
-use Rattle.lk_law.proofs.common.Worlds.{phase_on-here}
-use Rattle.lk_law.proofs.rw.Knows.{rw_row_knows}
-use Rattle.lk_law.specs.SoundWorld.{IsSoundWorld, spin_part}
-use Rattle.lk_law.specs.Snapshot.{Snapshot, spins}
-use Rattle.lk_law.specs.SpinWorld.{IsSoundSpinWorld}
-use Rattle.lk_law.specs.World.{World}
-use Rattle.lk_law.proofs.common.Puts.{not-true}
-use Rattle.lk_law.proofs.common.Users.{is_node-own}
-use Rattle.lk_law.proofs.queue.Lead.{follows_cases, lead_first}
-use Rattle.lk_names.proofs.ByIndex.{get_cases}
+use Rattle.std.proofs.Common.{◌≡◌, ◌≢◌, ◌⊎◌, inl, inr, ℕ, zero, suc, ◌≤◌, ◌+◌, Option, Some, None}
+use Rattle.std.proofs.Common.{Bool, true, false, refl, sym, ap, ◌∙◌, subst, arith, List, [], ◌∷◌}
+use Rattle.std.proofs.Common.{slice_get, is_some, ◌&&◌, not}
+use Rattle.lk_waits.proofs.Names.{NodeName, get_cases, LockHistory, Spins, Rw, LockName, Waiter}
+use Rattle.lk_waits.proofs.Names.{is_node, node_of, rw_name, Frame, Pc, G6, G7, G10, N1, P3, R2, R5}
+use Rattle.lk_waits.proofs.Names.{V1, Wr5, is_free, is_unlocked, not-true, is_node-own}
+use Rattle.lk_waits.proofs.Names.{phase_on-here, follows_cases, rw_row_knows, LockAgrees, halts}
+use Rattle.lk_waits.proofs.Names.{moves_aside, chooses, may_halt, Phase, leads, pends, queues}
+use Rattle.lk_waits.proofs.Names.{Holds, Idle, own_in, phase_at, phase_if, phase_on, snapshot}
+use Rattle.lk_waits.proofs.Names.{Snapshot, spins, IsSoundWorld, spin_part, IsSoundSpinWorld, World}
+use Rattle.lk_waits.proofs.Names.{HoldsOutside, IsRanked, IsTidy, IsTop, lock_at, polls}
+use Rattle.lk_law.proofs.queue.Lead.{lead_first}
+use Rattle.lk_law.specs.Cna.{FlatAgrees}
 use Rattle.lk_waits.proofs.Owning.{owns}
-use Rattle.lk_waits.specs.Waits.{polls, lock_at, IsTop, IsStuck}
-use Rattle.lk_waits.specs.Order.{IsTidy, IsRanked, IsFollowed, NoDeadlock, HoldsOutside, StuckWaitForOutside}
-use Rattle.lk_waits.proofs.Stands.{still_polls, still_V1, still_N1, still_P3, still_G6, still_G7, still_G10}
-use Rattle.lk_waits.proofs.Stands.{still_R2, still_R5, still_Wr5}
-use Rattle.lk_waits.proofs.Tops.{IsAt}
-use Rattle.lk_waits.proofs.Polling.{has_cases, owns_busy, pends_busy, leads_busy, links_busy, owns_polls}
-use Rattle.lk_waits.proofs.Polling.{pends_polls, links_polls, comes_polls, comes_spin, plain_lock, leads_polls}
+use Rattle.lk_waits.proofs.Polling.{has_cases, owns_busy, pends_busy, leads_busy, links_busy}
+use Rattle.lk_waits.proofs.Polling.{owns_polls, pends_polls, links_polls, comes_polls, comes_spin}
+use Rattle.lk_waits.proofs.Polling.{plain_lock, leads_polls, spins_is, unfree, locked_not}
+use Rattle.lk_waits.proofs.Polling.{uncleared}
+use Rattle.lk_waits.proofs.Stands.{still_polls, still_V1, still_N1, still_P3, still_G6, still_G7}
+use Rattle.lk_waits.proofs.{Stands.{still_G10, still_R2, still_R5, still_Wr5}, Tops.IsAt}
 use Rattle.lk_waits.proofs.Under.{Next, written, read, over, under, under_phase}
-use Rattle.lk_waits.proofs.Polling.{spins_is, unfree, locked_not, uncleared}
+use Rattle.lk_waits.specs.{Order.{IsFollowed, NoDeadlock, StuckWaitForOutside}, Waits.IsStuck}
 
 module _ (level : LockName → ℕ) (bound : ℕ) (m : World) (hs : LockName → LockHistory)
     (ok : IsSoundWorld m hs) (awake : halts m.mode ≡ false) (plain : moves_aside m.mode ≡ false)

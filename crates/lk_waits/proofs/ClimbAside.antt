@@ -1,54 +1,30 @@
 -- The same where waiters are moved aside.
-use Rattle.std.proofs.Common.{◌≡◌, ◌≢◌, ◌⊎◌, inl, inr, ℕ, zero, suc, ◌≤◌, ◌+◌, Option, Some, None, Bool, true}
-use Rattle.std.proofs.Common.{false, refl, sym, ap, ◌∙◌, subst, arith, List, [], ◌∷◌, slice_get}
-use Rattle.std.proofs.lemmas.Bool.{cases_Bool}
-use Rattle.std.specs.Prelude.{is_some, ◌&&◌, not}
-use Rattle.lk_names.specs.History.{LockHistory}
-use Rattle.lk_names.specs.declared.holder.Manner.TheVariants.{Spins}
-use Rattle.lk_names.specs.declared.names.Kind.TheVariants.{Rw}
-use Rattle.lk_names.specs.declared.names.Waiter.{Waiter}
-use Rattle.lk_names.specs.declared.names.LockName.{LockName}
-use Rattle.lk_word.specs.declared.spin_word.NodeName.{NodeName}
-use Rattle.lk_rows.specs.declared.parts.Frame.{Frame}
-use Rattle.lk_rows.specs.declared.parts.Pc.{Pc}
-use Rattle.lk_rows.specs.declared.parts.Pc.TheVariants.{V1, P3, G6, G7, N1, R2, R5, Wr5, C1, C3, C10}
-use Rattle.lk_rows.specs.Moves.{is_node, node_of, rw_name}
-use Rattle.lk_rows.specs.rows.Spin.{is_free, is_unlocked}
-use Rattle.lk_law.specs.Agree.{LockAgrees, halts}
-use Rattle.lk_law.specs.Cna.{moves_aside, CnaAgrees, part, shown, front_cut}
-use Rattle.lk_law.specs.Families.{may_halt, chooses}
-use Rattle.lk_law.specs.Phase.{Phase, pends, queues, leads}
-use Rattle.lk_law.specs.Phase.Phase.{Idle, Links, Holds}
-use Rattle.lk_law.specs.Places.{snapshot, phase_at, phase_if, phase_on, own_in, stage_on, stage_if}
-use Rattle.lk_law.proofs.common.Worlds.{phase_on-here, stage_on-here}
-use Rattle.lk_law.proofs.rw.Knows.{rw_row_knows}
-use Rattle.lk_law.specs.SoundWorld.{IsSoundWorld, spin_part}
-use Rattle.lk_law.specs.Snapshot.{Snapshot, spins}
-use Rattle.lk_law.specs.SpinWorld.{IsSoundSpinWorld}
-use Rattle.lk_law.specs.World.{World}
-use Rattle.lk_law.proofs.common.Puts.{not-true}
-use Rattle.lk_law.proofs.common.Users.{is_node-own}
-use Rattle.lk_law.proofs.queue.Lead.{follows_cases}
-use Rattle.lk_names.proofs.ByIndex.{get_cases}
+use Rattle.std.proofs.Common.{◌≡◌, ◌≢◌, ◌⊎◌, inl, inr, ℕ, zero, suc, ◌≤◌, ◌+◌, Option, Some, None}
+use Rattle.std.proofs.Common.{Bool, true, false, refl, sym, ap, ◌∙◌, subst, arith, List, [], ◌∷◌}
+use Rattle.std.proofs.Common.{slice_get, is_some, ◌&&◌, not}
+use Rattle.lk_waits.proofs.Names.{cases_Bool, NodeName, get_cases, LockHistory, Spins, Rw, LockName}
+use Rattle.lk_waits.proofs.Names.{Waiter, is_node, node_of, rw_name, Frame, Pc, C1, C3, C10, G6, G7}
+use Rattle.lk_waits.proofs.Names.{N1, P3, R2, R5, V1, Wr5, Why, is_last, is_free, is_unlocked}
+use Rattle.lk_waits.proofs.Names.{lists_front, row_knows, not-true, is_node-own, phase_on-here}
+use Rattle.lk_waits.proofs.Names.{follows_cases, rw_row_knows, LockAgrees, halts, moves_aside}
+use Rattle.lk_waits.proofs.Names.{chooses, may_halt, Phase, leads, pends, queues, Holds, Idle}
+use Rattle.lk_waits.proofs.Names.{Links, own_in, phase_at, phase_if, phase_on, snapshot, Snapshot}
+use Rattle.lk_waits.proofs.Names.{spins, IsSoundWorld, spin_part, IsSoundSpinWorld, World}
+use Rattle.lk_waits.proofs.Names.{is_alone_row, HoldsOutside, IsRanked, IsTidy, IsTop, lock_at}
+use Rattle.lk_waits.proofs.Names.{polls}
+use Rattle.lk_law.proofs.{cna.Parts.{part_out, shown_flag}, common.Worlds.stage_on-here}
+use Rattle.lk_law.specs.{Cna.{CnaAgrees, part, shown, front_cut}, Places.{stage_on, stage_if}}
+use Rattle.lk_law.specs.{Registers.hands_plainly, Stage.cut_of}
 use Rattle.lk_waits.proofs.Owning.{owns}
-use Rattle.lk_waits.specs.Waits.{polls, lock_at, IsTop, IsAtBay}
-use Rattle.lk_waits.specs.Order.{IsTidy, IsRanked, HoldsOutside}
-use Rattle.lk_waits.proofs.Stands.{still_polls, still_V1, still_N1, still_P3, still_G6, still_G7, still_R2, still_R5, still_Wr5}
-use Rattle.lk_waits.proofs.Tops.{IsAt}
-use Rattle.lk_waits.proofs.Polling.{has_cases, owns_busy, pends_busy, leads_busy, links_busy, pends_polls}
-use Rattle.lk_waits.proofs.Polling.{links_polls, comes_polls, comes_spin, plain_lock, spins_is}
-use Rattle.lk_waits.proofs.Polling.{unfree, locked_not, uncleared}
-use Rattle.lk_waits.specs.Aside.{IsFollowedAside, is_alone_row, AtBayWaitForOutside}
-use Rattle.lk_rows.specs.declared.parts.Why.{Why}
-use Rattle.lk_rows.specs.rows.Cna.{is_last}
-use Rattle.lk_law.specs.Registers.{hands_plainly}
-use Rattle.lk_law.specs.Stage.{cut_of}
-use Rattle.lk_law.proofs.cna.Parts.{part_out, shown_flag}
-use Rattle.lk_law.proofs.common.Families.{lists_front}
-use Rattle.lk_law.proofs.common.Knows.{row_knows}
+use Rattle.lk_waits.proofs.Polling.{has_cases, owns_busy, pends_busy, leads_busy, links_busy}
+use Rattle.lk_waits.proofs.Polling.{pends_polls, links_polls, comes_polls, comes_spin, plain_lock}
+use Rattle.lk_waits.proofs.Polling.{spins_is, unfree, locked_not, uncleared}
+use Rattle.lk_waits.proofs.Stands.{still_polls, still_V1, still_N1, still_P3, still_G6, still_G7}
+use Rattle.lk_waits.proofs.{Stands.{still_R2, still_R5, still_Wr5}, Tops.IsAt}
+use Rattle.lk_waits.proofs.TurnRows.{IsTurn, owns_turn, leads_turn, barred_polls, stands}
+use Rattle.lk_waits.proofs.TurnRows.{still_choice, turn_holds, last_is, Turning, still_C1}
 use Rattle.lk_waits.proofs.Under.{Next, written, read, over, under, under_phase}
-use Rattle.lk_waits.proofs.TurnRows.{IsTurn, owns_turn, leads_turn, barred_polls, stands, still_choice, turn_holds}
-use Rattle.lk_waits.proofs.TurnRows.{last_is, Turning, still_C1}
+use Rattle.lk_waits.specs.{Aside.{IsFollowedAside, AtBayWaitForOutside}, Waits.IsAtBay}
 
 module _ (level : LockName → ℕ) (bound : ℕ) (m : World) (hs : LockName → LockHistory)
     (ok : IsSoundWorld m hs) (awake : halts m.mode ≡ false) (plain : moves_aside m.mode ≡ true)

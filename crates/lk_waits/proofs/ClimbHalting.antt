@@ -1,48 +1,27 @@
 -- The same where processors halt.
-use Rattle.std.proofs.Common.{◌≡◌, ◌≢◌, ◌⊎◌, inl, inr, ℕ, zero, suc, ◌≤◌, ◌+◌, Option, Some, None, Bool, true}
-use Rattle.std.proofs.Common.{false, refl, sym, ap, ◌∙◌, subst, arith, List, [], ◌∷◌, slice_get}
-use Rattle.std.specs.Prelude.{is_some, ◌&&◌, not}
-use Rattle.lk_names.specs.History.{LockHistory}
-use Rattle.lk_names.specs.declared.holder.Manner.TheVariants.{Spins}
-use Rattle.lk_names.specs.declared.names.Waiter.{Waiter}
-use Rattle.lk_names.specs.declared.names.LockName.{LockName}
-use Rattle.lk_word.specs.declared.spin_word.NodeName.{NodeName}
-use Rattle.lk_word.specs.declared.spin_word.Locked.TheVariants.{Held}
-use Rattle.lk_rows.specs.declared.parts.Flag.{Flag}
-use Rattle.lk_rows.specs.declared.parts.Flag.TheVariants as flag
-use Rattle.lk_rows.specs.declared.parts.Frame.{Frame}
-use Rattle.lk_rows.specs.declared.parts.Pc.{Pc}
-use Rattle.lk_rows.specs.declared.parts.Pc.TheVariants.{W6, H1, E2, E3, E4, E5, E10, E11, E12, E14, U5, R2, R5, Wr5}
+use Rattle.std.proofs.Common.{◌≡◌, ◌≢◌, ◌⊎◌, inl, inr, ℕ, zero, suc, ◌≤◌, ◌+◌, Option, Some, None}
+use Rattle.std.proofs.Common.{Bool, true, false, refl, sym, ap, ◌∙◌, subst, arith, List, [], ◌∷◌}
+use Rattle.std.proofs.Common.{slice_get, is_some, ◌&&◌, not}
+use Rattle.lk_waits.proofs.Names.{Held, NodeName, get_cases, LockHistory, Spins, LockName, Waiter}
+use Rattle.lk_waits.proofs.Names.{is_node, node_of, rw_name, Flag, Frame, Pc, E2, E3, E4, E5, E10}
+use Rattle.lk_waits.proofs.Names.{E11, E12, E14, H1, R2, R5, U5, W6, Wr5, is_unlocked, is_node-own}
+use Rattle.lk_waits.proofs.Names.{phase_on-here, follows_cases, rw_row_knows, LockAgrees, halts}
+use Rattle.lk_waits.proofs.Names.{is_rw_row, Phase, leads, pends, queues, Holds, Idle, Links}
+use Rattle.lk_waits.proofs.Names.{own_in, phase_at, phase_if, phase_on, snapshot, Snapshot, spins}
+use Rattle.lk_waits.proofs.Names.{IsSoundWorld, spin_part, IsSoundSpinWorld, World, IsAwaited}
+use Rattle.lk_waits.proofs.Names.{IsHeadServed, halts_as_head, looks_after, HoldsOutside, IsRanked}
+use Rattle.lk_waits.proofs.Names.{IsTidy, IsTop, lock_at, polls}
 use Rattle.lk_rows.specs.Acts.{stands_halting}
-use Rattle.lk_rows.specs.Moves.{is_node, node_of, rw_name}
-use Rattle.lk_rows.specs.rows.Spin.{is_unlocked}
-use Rattle.lk_law.specs.Agree.{LockAgrees, halts}
+use Rattle.lk_law.proofs.{pv.Laws.halts_flat, queue.Lead.lead_first}
 use Rattle.lk_law.specs.Cna.{FlatAgrees}
-use Rattle.lk_law.specs.Families.{is_rw_row}
-use Rattle.lk_law.specs.Phase.{Phase, pends, queues, leads}
-use Rattle.lk_law.specs.Phase.Phase.{Idle, Holds, Links}
-use Rattle.lk_law.specs.Places.{snapshot, phase_at, phase_if, phase_on, own_in}
-use Rattle.lk_law.specs.SoundWorld.{IsSoundWorld, spin_part}
-use Rattle.lk_law.specs.Snapshot.{Snapshot, spins}
-use Rattle.lk_law.specs.SpinWorld.{IsSoundSpinWorld}
-use Rattle.lk_law.specs.World.{World}
-use Rattle.lk_law.proofs.common.Users.{is_node-own}
-use Rattle.lk_law.proofs.common.Worlds.{phase_on-here}
-use Rattle.lk_law.proofs.pv.Laws.{halts_flat}
-use Rattle.lk_law.proofs.queue.Lead.{follows_cases, lead_first}
-use Rattle.lk_law.proofs.rw.Knows.{rw_row_knows}
-use Rattle.lk_names.proofs.ByIndex.{get_cases}
-use Rattle.lk_waits.proofs.Owning.{owns}
-use Rattle.lk_waits.specs.Waits.{polls, lock_at, IsTop}
-use Rattle.lk_waits.specs.Order.{IsTidy, IsRanked, HoldsOutside}
-use Rattle.lk_waits.specs.Halting.{IsHeadServed, IsAtRest, IsAwaited, AtRestWaitForOutside}
-use Rattle.lk_waits.specs.Halting.{halts_as_head, looks_after}
-use Rattle.lk_waits.proofs.HaltingStands.{Stood, Sleeping, Turning, Looking, looks_on, stood, stood_polls, still_H1, still_E14}
-use Rattle.lk_waits.proofs.Polling.{has_cases, owns_busy, pends_busy, leads_busy, links_busy, plain_lock}
-use Rattle.lk_waits.proofs.Polling.{spins_is, locked_not, uncleared}
-use Rattle.lk_waits.proofs.Stands.{still_R2, still_R5, still_Wr5}
-use Rattle.lk_waits.proofs.Tops.{IsAt}
+use Rattle.lk_waits.proofs.HaltingStands.{Stood, Sleeping, Turning, Looking, looks_on, stood}
+use Rattle.lk_waits.proofs.{HaltingStands.{stood_polls, still_H1, still_E14}, Owning.owns}
+use Rattle.lk_waits.proofs.Polling.{has_cases, owns_busy, pends_busy, leads_busy, links_busy}
+use Rattle.lk_waits.proofs.Polling.{plain_lock, spins_is, locked_not, uncleared}
+use Rattle.lk_waits.proofs.{Stands.{still_R2, still_R5, still_Wr5}, Tops.IsAt}
 use Rattle.lk_waits.proofs.Under.{Next, written, read, over, under, under_phase}
+use Rattle.lk_waits.specs.Halting.{IsAtRest, AtRestWaitForOutside}
+use Rattle.lk_rows.specs.declared.parts.Flag.TheVariants as flag
 
 -- which rows a frame may have, by its phase, where its next step leads it nowhere
 

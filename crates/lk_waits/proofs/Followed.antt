@@ -1,53 +1,24 @@
 -- Every row keeps it that each head which waits for a successor has one, or one is coming.
 use Rattle.std.proofs.Common.{◌≡◌, ◌≢◌, ◌⊎◌, ◌<◌, inl, inr, Option, Some, None, Bool, true, false}
-use Rattle.std.proofs.Common.{refl, sym, ap, ◌∙◌, subst, arith}
-use Rattle.std.proofs.lemmas.Bool.{cases_Bool}
-use Rattle.std.specs.Prelude.{if◌then◌else◌, is_some, ◌&&◌, not}
-use Rattle.lk_names.specs.Names.{same_waiter, same_lock}
-use Rattle.lk_names.specs.History.{LockHistory}
-use Rattle.lk_names.specs.declared.names.Mode.{Mode}
-use Rattle.lk_names.specs.declared.names.Mode.TheVariants.{Virt, Native, Cna, Pv}
-use Rattle.lk_names.specs.declared.names.Waiter.{Waiter}
-use Rattle.lk_names.specs.declared.names.LockName.{LockName}
-use Rattle.lk_word.specs.declared.spin_word.NodeName.{NodeName}
-use Rattle.lk_word.specs.declared.spin_word.Fields.{Fields}
-use Rattle.lk_rows.specs.declared.parts.Flag.{Flag}
-use Rattle.lk_rows.specs.declared.parts.Flag.TheVariants as flag
-use Rattle.lk_rows.specs.declared.parts.Frame.{Frame}
-use Rattle.lk_rows.specs.declared.parts.Pc.{Pc}
-use Rattle.lk_rows.specs.declared.parts.Pc.TheVariants.{P2, P3}
-use Rattle.lk_rows.specs.declared.parts.Pc.TheVariants.{P4, G1, G4, G5, G6, G7, G8, G9}
-use Rattle.lk_rows.specs.declared.parts.Pc.TheVariants.{G10, G11, N1, N2, E1}
-use Rattle.lk_rows.specs.Moves.{is_node, node_of}
-use Rattle.lk_rows.specs.Row.{Effect}
-use Rattle.lk_rows.specs.rows.Spin.{is_unlocked}
-use Rattle.lk_rows.specs.rows.Queue.{is_sole, own_node, after_look, after_arrival}
-use Rattle.lk_rows.specs.rows.Queue.{after_head, after_flag, after_next}
-use Rattle.lk_rows.specs.TopRow.{target}
-use Rattle.lk_law.specs.Agree.{halts}
-use Rattle.lk_law.specs.Cna.{moves_aside}
-use Rattle.lk_law.specs.Families.{may_halt}
-use Rattle.lk_law.specs.Leads.{stored_in}
-use Rattle.lk_law.specs.Phase.{Phase, pends, watches, stakes, claims}
-use Rattle.lk_word.specs.declared.spin_word.Locked.TheVariants.{Free, Held}
-use Rattle.lk_law.specs.Phase.Phase.{Idle}
-use Rattle.lk_law.specs.Places.{snapshot, phase_at, phase_if, phase_on}
-use Rattle.lk_law.specs.Premises.{IsThen}
-use Rattle.lk_law.specs.SpinWorld.{IsSoundSpinWorld}
-use Rattle.lk_law.specs.Steps.{led, row_in, stores_word, stores_next}
-use Rattle.lk_law.specs.World.{World}
-use Rattle.lk_law.proofs.common.Cases.{waiter_cases}
-use Rattle.lk_law.proofs.common.Puts.{if-true, if-false, same_waiter-else}
-use Rattle.lk_law.proofs.common.Sames.{same_waiter-self, same_lock-self}
-use Rattle.lk_law.proofs.common.Worlds.{phase_on-here}
-use Rattle.lk_law.proofs.running.Leads.{row_is_done}
-use Rattle.lk_waits.specs.Order.{SomebodyComesBy, IsFollowedBy, comes_by, is_led_on}
-use Rattle.lk_waits.specs.Followed.{IsHeadFollowed, IsUnaware, RowKeepsFollowed, RowKeepsLed}
-use Rattle.lk_waits.proofs.Tops.{busy_at}
-use Rattle.lk_waits.proofs.Mute.{tells, Mute, mute, after}
-use Rattle.lk_waits.proofs.Noded as nodeless
+use Rattle.std.proofs.Common.{refl, sym, ap, ◌∙◌, subst, arith, if◌then◌else◌, is_some, ◌&&◌, not}
+use Rattle.lk_waits.proofs.Names.{cases_Bool, Fields, Free, Held, NodeName, LockHistory, same_lock}
+use Rattle.lk_waits.proofs.Names.{same_waiter, LockName, Mode, Cna, Native, Pv, Virt, Waiter}
+use Rattle.lk_waits.proofs.Names.{is_node, node_of, Effect, target, Flag, Frame, Pc, E1, G1, G4, G5}
+use Rattle.lk_waits.proofs.Names.{G6, G7, G8, G9, G10, G11, N1, N2, P2, P3, P4, after_arrival}
+use Rattle.lk_waits.proofs.Names.{after_flag, after_head, after_next, is_sole, own_node}
+use Rattle.lk_waits.proofs.Names.{is_unlocked, waiter_cases, if-false, if-true, same_waiter-else}
+use Rattle.lk_waits.proofs.Names.{same_lock-self, same_waiter-self, phase_on-here, row_is_done}
+use Rattle.lk_waits.proofs.Names.{halts, moves_aside, may_halt, stored_in, Phase, pends, Idle}
+use Rattle.lk_waits.proofs.Names.{phase_at, phase_if, phase_on, snapshot, IsThen, IsSoundSpinWorld}
+use Rattle.lk_waits.proofs.Names.{led, row_in, stores_next, stores_word, World, IsFollowedBy}
+use Rattle.lk_waits.proofs.Names.{SomebodyComesBy, comes_by, is_led_on}
+use Rattle.lk_rows.specs.rows.Queue.{after_look}
+use Rattle.lk_law.specs.Phase.{watches, stakes, claims}
 use Rattle.lk_waits.proofs.Beside.{unhalting, unchoosing, still_comes, apart, other_keeps}
-use Rattle.lk_waits.proofs.Tails.{next_frame}
+use Rattle.lk_waits.proofs.{Mute.{tells, Mute, mute, after}, Tails.next_frame, Tops.busy_at}
+use Rattle.lk_waits.specs.Followed.{IsHeadFollowed, IsUnaware, RowKeepsFollowed, RowKeepsLed}
+use Rattle.lk_rows.specs.declared.parts.Flag.TheVariants as flag
+use Rattle.lk_waits.proofs.Noded as nodeless
 
 mute_not : (o : Option Pc) (d : Pc) → Mute o → o ≡ Some d → tells (Some d) ≡ true → ⊥
 mute_not o d h e t = let z = ap tells e in cc (z, h, t)

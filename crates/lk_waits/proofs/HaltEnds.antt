@@ -1,35 +1,18 @@
 -- The end of a halt keeps it that heads are served.
-use Rattle.std.proofs.Common.{◌≡◌, ◌≢◌, ◌⊎◌, inl, inr, ℕ, Option, Some, true, false}
-use Rattle.std.proofs.Common.{refl, sym, ap, ◌∙◌, arith}
+use Rattle.std.proofs.Common.{◌≡◌, ◌≢◌, ◌⊎◌, inl, inr, ℕ, Option, Some, true, false, refl, sym, ap}
+use Rattle.std.proofs.Common.{◌∙◌, arith, ◌==◌}
 use Rattle.std.proofs.lemmas.Bool.{eqb-true}
-use Rattle.std.specs.Prelude.{◌==◌}
-use Rattle.lk_names.specs.Names.{same_waiter}
-use Rattle.lk_names.specs.History.{LockHistory}
-use Rattle.lk_names.specs.declared.names.Waiter.{Waiter}
-use Rattle.lk_names.specs.declared.names.LockName.{LockName}
-use Rattle.lk_word.specs.declared.spin_word.Fields.{Fields}
-use Rattle.lk_rows.specs.declared.parts.Flag.{Flag}
-use Rattle.lk_rows.specs.declared.parts.Frame.{Frame}
-use Rattle.lk_rows.specs.declared.parts.Pc.{Pc}
-use Rattle.lk_rows.specs.declared.parts.Pc.TheVariants.{W6, E12, E14, U5}
+use Rattle.lk_waits.proofs.Names.{Fields, LockHistory, same_waiter, LockName, Waiter, node_of, Flag}
+use Rattle.lk_waits.proofs.Names.{Frame, Pc, E12, E14, U5, W6, is_set, waiter_cases, if-false}
+use Rattle.lk_waits.proofs.Names.{if-true, not-true, same_waiter-else, same_waiter-self, halts}
+use Rattle.lk_waits.proofs.Names.{post_at, snapshot, IsNewest, IsSoundSpinWorld, World, IsAwaited}
+use Rattle.lk_waits.proofs.Names.{IsHeadServed, halts_as_head, looks_after}
 use Rattle.lk_rows.specs.Acts.{after_halt}
-use Rattle.lk_rows.specs.Moves.{node_of}
-use Rattle.lk_rows.specs.rows.Pv.{is_set}
-use Rattle.lk_law.specs.Agree.{halts}
-use Rattle.lk_law.specs.Places.{snapshot, post_at, post_if, post_of, post_on}
-use Rattle.lk_law.specs.Premises.{IsNewest, roused}
-use Rattle.lk_law.specs.Pv.{at_halt}
-use Rattle.lk_law.specs.SpinWorld.{IsSoundSpinWorld}
+use Rattle.lk_law.proofs.{common.Worlds.post_on-here, pv.HaltsEnd.{halted_sleeps, sleeping_row}}
+use Rattle.lk_law.specs.{Places.{post_if, post_of, post_on}, Premises.roused, Pv.at_halt}
 use Rattle.lk_law.specs.Steps.{put_kicked}
-use Rattle.lk_law.specs.World.{World}
-use Rattle.lk_law.proofs.common.Cases.{waiter_cases}
-use Rattle.lk_law.proofs.common.Puts.{if-true, if-false, not-true, same_waiter-else}
-use Rattle.lk_law.proofs.common.Sames.{same_waiter-self}
-use Rattle.lk_law.proofs.common.Worlds.{post_on-here}
-use Rattle.lk_law.proofs.pv.HaltsEnd.{halted_sleeps, sleeping_row}
-use Rattle.lk_waits.specs.Halting.{EndsKeepServed, IsHeadServed, IsAwaited, halts_as_head, looks_after}
-use Rattle.lk_waits.proofs.Changed.{Roused}
-use Rattle.lk_waits.proofs.HaltingLeads.{tells}
+use Rattle.lk_waits.proofs.{Changed.Roused, HaltingLeads.tells}
+use Rattle.lk_waits.specs.Halting.{EndsKeepServed}
 
 -- the frame of a waiter that was about to halt, or has halted, stands behind the halt
 behind_tells : (o : Option Pc) → (o ≡ Some W6) ⊎ (o ≡ Some E12) → tells (after_halt o) ≡ false

@@ -1,47 +1,31 @@
 -- Where the rows of the family that halts processors lead, and which flags they set.
 use Rattle.std.proofs.Common.{◌≡◌, ◌≢◌, ◌⊎◌, inl, inr, ℕ, Option, Some, None, Bool, true, false}
-use Rattle.std.proofs.Common.{refl, sym, ap, ◌∙◌, subst, arith, ◌-◌, [], ◌∷◌}
-use Rattle.std.proofs.lemmas.Bool.{cases_Bool}
-use Rattle.std.specs.Prelude.{if◌then◌else◌, is_some, ◌&&◌, not, ◌==◌}
-use Rattle.lk_names.specs.declared.names.Mode.{Mode}
-use Rattle.lk_names.specs.declared.names.Mode.TheVariants.{Virt, Native, Cna, Pv}
-use Rattle.lk_names.specs.declared.names.Waiter.{Waiter}
-use Rattle.lk_word.specs.declared.spin_word.NodeName.{NodeName}
-use Rattle.lk_word.specs.declared.spin_word.Fields.{Fields}
-use Rattle.lk_word.specs.declared.rw_word.RwFields.{RwFields}
-use Rattle.lk_rows.specs.declared.parts.Flag.{Flag}
-use Rattle.lk_rows.specs.declared.parts.Flag.TheVariants as flag
-use Rattle.lk_rows.specs.declared.parts.State.{State}
-use Rattle.lk_rows.specs.declared.parts.Node.{Node}
-use Rattle.lk_rows.specs.declared.parts.Frame.{Frame}
-use Rattle.lk_rows.specs.declared.parts.Pc.{Pc}
-use Rattle.lk_rows.specs.declared.parts.Pc.TheVariants.{F1, T1, T2, G1, G4, G5, H1, H2, E1, E2, E3, E4, E5}
-use Rattle.lk_rows.specs.declared.parts.Pc.TheVariants.{E6, E7, E8, E9, E10, E11, E12, E13, E14, E15}
-use Rattle.lk_rows.specs.declared.parts.Pc.TheVariants.{W1, W2, W3, W4, W5, W6, W7, K1, K2, K3, U2, U3}
-use Rattle.lk_rows.specs.declared.parts.Pc.TheVariants.{U4, U5}
-use Rattle.lk_rows.specs.declared.parts.Pc.TheVariants.{R1, R2, R3, R4, R5, Wr1, Wr2, Wr3, Wr4}
-use Rattle.lk_rows.specs.declared.parts.Pc.TheVariants.{Wr5, Wr6, Y1, Y2, Y3, Y4, Y5, Z1, Z2}
-use Rattle.lk_rows.specs.declared.setup.Verb.TheVariants.{Unlock}
-use Rattle.lk_rows.specs.Moves.{node_of, first_place}
-use Rattle.lk_rows.specs.Row.{Effect, looks, Goes, Nothing, PvWaitNode}
-use Rattle.lk_rows.specs.rows.Spin.{spin_row, is_free, is_unlocked, to_queue, after_fast}
-use Rattle.lk_rows.specs.rows.Queue.{queue_row, entry_row, next_row, own_node, after_entry, after_arrival, after_link}
-use Rattle.lk_rows.specs.rows.Pv.{pv_row, pv_flag_row, pv_next_row, state_row, hash_row, halt_row, kick_row}
-use Rattle.lk_rows.specs.rows.Pv.{is_set, is_running, is_halted, after_glance, after_given_up}
-use Rattle.lk_rows.specs.rows.Cna.{is_held, search_row, second_row, runs_row, promotion_row}
-use Rattle.lk_rows.specs.rows.Rw.{rw_row, is_empty, is_open, is_cleared}
-use Rattle.lk_rows.specs.TopRow.{Target, SpinWord, QueueWord, Queued, FlagOf, NextOf, ChoiceWord, target}
-use Rattle.lk_rows.specs.TopRow.{ChoiceFlag, ChoiceNext, SecondTailOf, RunsOf, PvWord, PvFlag, PvNext, StateOf}
-use Rattle.lk_rows.specs.TopRow.{HashEntry, Halted, KickOf, RwWord}
-use Rattle.lk_law.specs.Families.{stays_awake}
-use Rattle.lk_law.specs.Leads.{course_in, stored_in}
-use Rattle.lk_law.specs.Premises.{IsThen}
+use Rattle.std.proofs.Common.{refl, sym, ap, ◌∙◌, subst, arith, ◌-◌, [], ◌∷◌, if◌then◌else◌}
+use Rattle.std.proofs.Common.{is_some, ◌&&◌, not, ◌==◌}
+use Rattle.lk_waits.proofs.Names.{cases_Bool, RwFields, Fields, NodeName, Mode, Cna, Native, Pv}
+use Rattle.lk_waits.proofs.Names.{Virt, Waiter, first_place, node_of, Effect, Goes, ChoiceFlag}
+use Rattle.lk_waits.proofs.Names.{ChoiceNext, ChoiceWord, FlagOf, Halted, HashEntry, KickOf, NextOf}
+use Rattle.lk_waits.proofs.Names.{PvFlag, PvNext, PvWord, QueueWord, Queued, RunsOf, RwWord}
+use Rattle.lk_waits.proofs.Names.{SecondTailOf, SpinWord, StateOf, Target, target, Flag, Frame, Pc}
+use Rattle.lk_waits.proofs.Names.{E1, E2, E3, E4, E5, E7, E8, E10, E11, E12, E13, E14, E15, F1, G1}
+use Rattle.lk_waits.proofs.Names.{G4, G5, H1, H2, K1, K2, R1, R2, R3, R4, R5, T1, T2, U2, U4, U5}
+use Rattle.lk_waits.proofs.Names.{W5, W6, W7, Wr1, Wr2, Wr3, Wr4, Wr5, Wr6, Y1, Y2, Y3, Y4, Y5, Z1}
+use Rattle.lk_waits.proofs.Names.{Z2, State, Unlock, is_held, promotion_row, runs_row, search_row}
+use Rattle.lk_waits.proofs.Names.{second_row, is_halted, is_set, after_arrival, after_entry}
+use Rattle.lk_waits.proofs.Names.{after_link, entry_row, next_row, own_node, queue_row, is_cleared}
+use Rattle.lk_waits.proofs.Names.{is_empty, is_open, rw_row, after_fast, is_free, is_unlocked}
+use Rattle.lk_waits.proofs.Names.{to_queue, if-false, if-true, stays_awake, course_in, stored_in}
+use Rattle.lk_waits.proofs.Names.{IsThen, led, sight_in, stores_next, stores_word, World}
+use Rattle.lk_rows.specs.{Row.{looks, Nothing, PvWaitNode}, declared.parts.Node.Node}
+use Rattle.lk_rows.specs.declared.parts.Pc.TheVariants.{E6, E9, W1, W2, W3, W4, K3, U3}
+use Rattle.lk_rows.specs.rows.Pv.{pv_row, pv_flag_row, pv_next_row, state_row, hash_row, halt_row}
+use Rattle.lk_rows.specs.rows.Pv.{kick_row, is_running, after_glance, after_given_up}
+use Rattle.lk_rows.specs.rows.Spin.{spin_row}
+use Rattle.lk_law.proofs.{common.Cases.node_cases, common.Puts.{same_node-self, same_node-else}}
 use Rattle.lk_law.specs.Snapshot.{same_node}
-use Rattle.lk_law.specs.Steps.{led, sight_in, put_node, stores_word, stores_next, stores_second}
-use Rattle.lk_law.specs.Steps.{stores_runs, stores_state, stores_entry, stores_halted, stores_kicked, stores_queued, stores_rw, stores_flag}
-use Rattle.lk_law.specs.World.{World}
-use Rattle.lk_law.proofs.common.Cases.{node_cases}
-use Rattle.lk_law.proofs.common.Puts.{if-true, if-false, same_node-self, same_node-else}
+use Rattle.lk_law.specs.Steps.{put_node, stores_second, stores_runs, stores_state, stores_entry}
+use Rattle.lk_law.specs.Steps.{stores_halted, stores_kicked, stores_queued, stores_rw, stores_flag}
+use Rattle.lk_rows.specs.declared.parts.Flag.TheVariants as flag
 
 -- the place is one of these that tell: of a head that looks for its successor, or of a waiter that halts
 abbrev pub tells : Option Pc → Bool

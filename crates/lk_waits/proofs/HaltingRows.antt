@@ -1,41 +1,22 @@
 -- What the rows of the family that halts processors do to words, flags and kicks, and where they lead.
 use Rattle.std.proofs.Common.{◌≡◌, ◌≢◌, ◌⊎◌, inl, inr, ℕ, Option, Some, None, Bool, true, false}
-use Rattle.std.proofs.Common.{refl, sym, ap, ◌∙◌, subst, arith}
-use Rattle.std.specs.Prelude.{if◌then◌else◌, ◌&&◌, ◌==◌, ◌-◌}
-use Rattle.lk_names.specs.Names.{same_lock}
-use Rattle.lk_names.specs.declared.names.Waiter.{Waiter}
-use Rattle.lk_names.specs.declared.names.LockName.{LockName}
-use Rattle.lk_word.specs.declared.spin_word.NodeName.{NodeName}
-use Rattle.lk_word.specs.declared.spin_word.Fields.{Fields}
-use Rattle.lk_word.specs.declared.spin_word.Locked.{Locked}
-use Rattle.lk_word.specs.declared.spin_word.Locked.TheVariants.{Slow}
-use Rattle.lk_word.specs.declared.rw_word.RwFields.{RwFields}
-use Rattle.lk_rows.specs.declared.parts.Flag.{Flag}
-use Rattle.lk_rows.specs.declared.parts.State.{State}
-use Rattle.lk_rows.specs.declared.parts.Frame.{Frame}
-use Rattle.lk_rows.specs.declared.parts.Pc.{Pc}
-use Rattle.lk_rows.specs.declared.parts.Pc.TheVariants.{F1, T1, T2, G4, H1, H2, E3, E4, E5}
-use Rattle.lk_rows.specs.declared.parts.Pc.TheVariants.{E7, E8, E11, E13}
-use Rattle.lk_rows.specs.declared.parts.Pc.TheVariants.{K2, U2}
-use Rattle.lk_rows.specs.declared.parts.Pc.TheVariants.{U4, U5}
-use Rattle.lk_rows.specs.Moves.{node_of}
-use Rattle.lk_rows.specs.Row.{Effect}
-use Rattle.lk_rows.specs.rows.Spin.{spin_row, is_free, is_unlocked}
-use Rattle.lk_rows.specs.rows.Queue.{queue_row, entry_row, next_row, flag_row}
-use Rattle.lk_rows.specs.rows.Pv.{pv_row, pv_flag_row, pv_next_row, state_row, hash_row, halt_row, kick_row}
-use Rattle.lk_rows.specs.rows.Cna.{is_held, is_last, search_row, second_row, runs_row, handover_row, promotion_row}
-use Rattle.lk_rows.specs.rows.Rw.{rw_row}
-use Rattle.lk_rows.specs.TopRow.{Target, SpinWord, QueueWord, Queued, FlagOf, NextOf, ChoiceWord, target}
-use Rattle.lk_rows.specs.TopRow.{ChoiceFlag, ChoiceNext, SecondTailOf, RunsOf, PvWord, PvFlag, PvNext, StateOf}
-use Rattle.lk_rows.specs.TopRow.{HashEntry, Halted, KickOf, RwWord}
-use Rattle.lk_law.specs.Families.{stays_awake}
-use Rattle.lk_law.specs.Leads.{stored_in}
-use Rattle.lk_law.specs.Steps.{sight_in, stores_word, stores_flag, stores_next, stores_second}
-use Rattle.lk_law.specs.Steps.{stores_runs, stores_state, stores_entry, stores_halted, stores_kicked, stores_queued, stores_rw}
-use Rattle.lk_law.specs.World.{World}
-use Rattle.lk_law.proofs.common.Cases.{lock_cases}
-use Rattle.lk_law.proofs.common.Puts.{if-true, if-false, same_lock-else}
-use Rattle.lk_law.proofs.common.Sames.{same_lock-self}
+use Rattle.std.proofs.Common.{refl, sym, ap, ◌∙◌, subst, arith, if◌then◌else◌, ◌&&◌, ◌==◌, ◌-◌}
+use Rattle.lk_waits.proofs.Names.{RwFields, Fields, Locked, Slow, NodeName, same_lock, LockName}
+use Rattle.lk_waits.proofs.Names.{Waiter, node_of, Effect, ChoiceFlag, ChoiceNext, ChoiceWord}
+use Rattle.lk_waits.proofs.Names.{FlagOf, Halted, HashEntry, KickOf, NextOf, PvFlag, PvNext, PvWord}
+use Rattle.lk_waits.proofs.Names.{QueueWord, Queued, RunsOf, RwWord, SecondTailOf, SpinWord}
+use Rattle.lk_waits.proofs.Names.{StateOf, Target, target, Flag, Frame, Pc, E3, E4, E5, E7, E8, E11}
+use Rattle.lk_waits.proofs.Names.{E13, F1, G4, H1, H2, K2, T1, T2, U2, U4, U5, State, is_held}
+use Rattle.lk_waits.proofs.Names.{is_last, promotion_row, runs_row, search_row, second_row}
+use Rattle.lk_waits.proofs.Names.{entry_row, flag_row, next_row, queue_row, rw_row, is_free}
+use Rattle.lk_waits.proofs.Names.{is_unlocked, lock_cases, if-false, if-true, same_lock-else}
+use Rattle.lk_waits.proofs.Names.{same_lock-self, stays_awake, stored_in, sight_in, stores_next}
+use Rattle.lk_waits.proofs.Names.{stores_word, World}
+use Rattle.lk_rows.specs.rows.Cna.{handover_row}
+use Rattle.lk_rows.specs.rows.Pv.{pv_row, pv_flag_row, pv_next_row, state_row, hash_row, halt_row}
+use Rattle.lk_rows.specs.{rows.Pv.kick_row, rows.Spin.spin_row}
+use Rattle.lk_law.specs.Steps.{stores_flag, stores_second, stores_runs, stores_state, stores_entry}
+use Rattle.lk_law.specs.Steps.{stores_halted, stores_kicked, stores_queued, stores_rw}
 
 -- what the store of a row may make of a word: in this relation to what it was
 abbrev pub Makes : (Fields → Fields → Type 0) → Fields → Option Fields → Type 0

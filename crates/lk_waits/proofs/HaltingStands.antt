@@ -1,45 +1,22 @@
 -- At which rows a frame of the family that halts processors may stand still, and what it met then.
 use Rattle.std.proofs.Common.{◌≡◌, ◌≢◌, ◌⊎◌, inl, inr, ℕ, Option, Some, None, Bool, true, false}
-use Rattle.std.proofs.Common.{refl, sym, ap, ◌∙◌, subst, arith, ◌<◌, ◌-◌, []}
-use Rattle.std.proofs.lemmas.Bool.{cases_Bool, cases_lt}
-use Rattle.std.specs.Prelude.{if◌then◌else◌, is_some, ◌&&◌, not, ◌==◌}
-use Rattle.lk_names.specs.Names.{same_waiter}
-use Rattle.lk_names.specs.History.{LockHistory}
-use Rattle.lk_names.specs.declared.names.Waiter.{Waiter}
-use Rattle.lk_names.specs.declared.names.LockName.{LockName}
-use Rattle.lk_word.specs.declared.spin_word.NodeName.{NodeName}
-use Rattle.lk_word.specs.declared.spin_word.Fields.{Fields}
-use Rattle.lk_word.specs.declared.spin_word.Locked.TheVariants.{Held}
-use Rattle.lk_rows.specs.declared.parts.State.{State}
-use Rattle.lk_rows.specs.declared.parts.Frame.{Frame}
-use Rattle.lk_rows.specs.declared.parts.Pc.{Pc}
-use Rattle.lk_rows.specs.declared.parts.Pc.TheVariants.{H1, H2, E1, E2, E3, E4, E5}
-use Rattle.lk_rows.specs.declared.parts.Pc.TheVariants.{E6, E7, E8, E9, E10, E11, E12, E13, E14, E15}
-use Rattle.lk_rows.specs.declared.parts.Pc.TheVariants.{W1, W2, W3, W4, W5, W6, W7, K1, K2, K3, U2, U3}
-use Rattle.lk_rows.specs.declared.parts.Pc.TheVariants.{U4, U5, R2, R4, R5, Wr2, Wr5}
+use Rattle.std.proofs.Common.{refl, sym, ap, ◌∙◌, subst, arith, ◌<◌, ◌-◌, [], if◌then◌else◌}
+use Rattle.std.proofs.Common.{is_some, ◌&&◌, not, ◌==◌}
+use Rattle.lk_waits.proofs.Names.{cases_Bool, cases_lt, Fields, Held, NodeName, LockHistory}
+use Rattle.lk_waits.proofs.Names.{same_waiter, LockName, Waiter, node_of, Effect, target, Frame, Pc}
+use Rattle.lk_waits.proofs.Names.{E1, E2, E3, E4, E5, E7, E8, E10, E11, E12, E13, E14, E15, H1, H2}
+use Rattle.lk_waits.proofs.Names.{K1, K2, R2, R4, R5, U2, U4, U5, W5, W6, W7, Wr2, Wr5, State}
+use Rattle.lk_waits.proofs.Names.{is_held, is_last, is_halted, is_set, is_slow_byte, pv_after_next}
+use Rattle.lk_waits.proofs.Names.{is_unlocked, if-true, not-true, same_waiter-self, row_is_done}
+use Rattle.lk_waits.proofs.Names.{halts, chooses, may_halt, stays_awake, course_in, IsNewest}
+use Rattle.lk_waits.proofs.Names.{IsThen, IsSoundSpinWorld, led, World, IsTop, StandsStill, polls}
 use Rattle.lk_rows.specs.Acts.{stands_halting}
-use Rattle.lk_rows.specs.Moves.{node_of}
-use Rattle.lk_rows.specs.Row.{Effect}
-use Rattle.lk_rows.specs.rows.Spin.{is_unlocked}
-use Rattle.lk_rows.specs.rows.Pv.{is_set, is_running, is_halted, is_slow_byte, after_given_up, pv_after_next, try_again}
-use Rattle.lk_rows.specs.rows.Cna.{is_held, is_last}
-use Rattle.lk_rows.specs.TopRow.{target}
-use Rattle.lk_law.specs.Agree.{halts}
-use Rattle.lk_law.specs.Families.{may_halt, chooses, stays_awake}
-use Rattle.lk_law.specs.Leads.{course_in}
-use Rattle.lk_law.specs.Premises.{IsThen, IsNewest, IsShallow}
-use Rattle.lk_law.specs.Registers.{counts_turns}
-use Rattle.lk_law.specs.SpinWorld.{IsSoundSpinWorld}
-use Rattle.lk_law.specs.Steps.{led}
-use Rattle.lk_law.specs.World.{World}
-use Rattle.lk_law.proofs.common.Puts.{if-true, not-true}
-use Rattle.lk_law.proofs.common.Sames.{same_waiter-self}
-use Rattle.lk_law.proofs.pv.HaltsEnd.{halted_sleeps, sleeping_row}
-use Rattle.lk_law.proofs.pv.Laws.{halts_flat}
-use Rattle.lk_law.proofs.running.Leads.{row_is_done}
-use Rattle.lk_waits.specs.Halting.{LeadsNowhere, goes_around}
-use Rattle.lk_waits.specs.Waits.{polls, IsTop, StandsStill}
+use Rattle.lk_rows.specs.declared.parts.Pc.TheVariants.{E6, E9, W1, W2, W3, W4, K3, U3}
+use Rattle.lk_rows.specs.rows.Pv.{is_running, after_given_up, try_again}
+use Rattle.lk_law.proofs.{pv.HaltsEnd.{halted_sleeps, sleeping_row}, pv.Laws.halts_flat}
+use Rattle.lk_law.specs.{Premises.IsShallow, Registers.counts_turns}
 use Rattle.lk_waits.proofs.Stands.{Off, still_polls}
+use Rattle.lk_waits.specs.Halting.{LeadsNowhere, goes_around}
 
 -- the row is a poll that leaves the frame where it was, and does not halt
 abbrev pub looks_on : Pc → Bool

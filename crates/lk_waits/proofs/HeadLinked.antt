@@ -1,55 +1,25 @@
 -- Where processors halt, every row keeps it that each head which looks for its successor has one.
-use Rattle.std.proofs.Common.{◌≡◌, ◌≢◌, ◌⊎◌, inl, inr, Option, Some, None, Bool, true, false}
-use Rattle.std.proofs.Common.{refl, sym, ap, ◌∙◌, subst, arith, slice_get, []}
-use Rattle.std.proofs.lemmas.Bool.{cases_Bool}
-use Rattle.std.specs.Prelude.{if◌then◌else◌, is_some}
-use Rattle.lk_names.specs.History.{LockHistory}
-use Rattle.lk_names.specs.Names.{same_lock}
+use Rattle.std.proofs.Common.{◌≡◌, ◌≢◌, ◌⊎◌, inl, inr, Option, Some, None, Bool, true, false, refl}
+use Rattle.std.proofs.Common.{sym, ap, ◌∙◌, subst, arith, slice_get, [], if◌then◌else◌, is_some}
+use Rattle.lk_waits.proofs.Names.{cases_Bool, Fields, Locked, Held, Slow, NodeName, LockHistory}
+use Rattle.lk_waits.proofs.Names.{same_lock, LockName, Waiter, is_node, node_of, Effect, target}
+use Rattle.lk_waits.proofs.Names.{Flag, Frame, Pc, E2, E8, E11, E12, E13, E14, E15, G4, K1, K2, R4}
+use Rattle.lk_waits.proofs.Names.{U4, W5, W6, W7, Wr2, State, is_last, is_halted, is_set}
+use Rattle.lk_waits.proofs.Names.{is_slow_byte, pv_after_next, lock_cases, waiter_cases}
+use Rattle.lk_waits.proofs.Names.{lists_front, row_knows, not-true, is_node-own, node_is_ones}
+use Rattle.lk_waits.proofs.Names.{phase_on-here, LockAgrees, halts, stays_awake, stored_in, Phase}
+use Rattle.lk_waits.proofs.Names.{leads, pends, Holds, Idle, own_in, phase_at, phase_if, phase_on}
+use Rattle.lk_waits.proofs.Names.{post_at, snapshot, IsThen, Uses, Snapshot, IsSoundSpinWorld, led}
+use Rattle.lk_waits.proofs.Names.{stores_next, stores_word, World, IsHeadServed, halts_as_head}
+use Rattle.lk_waits.proofs.Names.{looks_after}
 use Rattle.lk_names.specs.declared.events.What.TheVariants.{Leave}
-use Rattle.lk_names.specs.declared.names.Waiter.{Waiter}
-use Rattle.lk_names.specs.declared.names.LockName.{LockName}
-use Rattle.lk_word.specs.declared.spin_word.NodeName.{NodeName}
-use Rattle.lk_word.specs.declared.spin_word.Fields.{Fields}
-use Rattle.lk_word.specs.declared.spin_word.Locked.{Locked}
-use Rattle.lk_word.specs.declared.spin_word.Locked.TheVariants.{Held, Slow}
-use Rattle.lk_rows.specs.declared.parts.Flag.{Flag}
-use Rattle.lk_rows.specs.declared.parts.State.{State}
+use Rattle.lk_rows.specs.Row.{Leaves, Says, looks}
+use Rattle.lk_law.proofs.{common.Sames.same_lock-true, common.Worlds.post_on-here}
+use Rattle.lk_law.specs.{Agree.ParaAgrees, Phase.{follows, has_node}, Phase.Phase.Waits}
+use Rattle.lk_law.specs.{Places.{post_if, post_of, post_on}, Pv.{Post, calls}, Pv.Post.Off}
+use Rattle.lk_waits.proofs.{Changed.{Changed, next_frame}, HaltingLeads.{tells, Mute, mute}}
+use Rattle.lk_waits.proofs.{HaltingRows.tails_kept, Tails.{arrived, elsewhere}, Tops.busy_at}
 use Rattle.lk_rows.specs.declared.parts.State.TheVariants as state
-use Rattle.lk_rows.specs.declared.parts.Frame.{Frame}
-use Rattle.lk_rows.specs.declared.parts.Pc.{Pc}
-use Rattle.lk_rows.specs.declared.parts.Pc.TheVariants.{G4, W5, W6, W7, E2, E8, E11, E12, E13, E14, E15}
-use Rattle.lk_rows.specs.declared.parts.Pc.TheVariants.{K1, K2, U4, R4, Wr2}
-use Rattle.lk_rows.specs.Moves.{is_node, node_of}
-use Rattle.lk_rows.specs.Row.{Effect, Leaves, Says, looks}
-use Rattle.lk_rows.specs.rows.Pv.{is_set, is_halted, is_slow_byte, pv_after_next}
-use Rattle.lk_rows.specs.rows.Cna.{is_last}
-use Rattle.lk_rows.specs.TopRow.{target}
-use Rattle.lk_law.specs.Agree.{LockAgrees, ParaAgrees, halts}
-use Rattle.lk_law.specs.Families.{stays_awake}
-use Rattle.lk_law.specs.Leads.{stored_in}
-use Rattle.lk_law.specs.Phase.{Phase, pends, leads, follows, has_node}
-use Rattle.lk_law.specs.Phase.Phase.{Idle, Holds, Waits}
-use Rattle.lk_law.specs.Places.{snapshot, phase_at, phase_if, phase_on, own_in, post_at, post_if, post_of, post_on}
-use Rattle.lk_law.specs.Premises.{IsThen, Uses}
-use Rattle.lk_law.specs.Pv.{Post, calls}
-use Rattle.lk_law.specs.Pv.Post.{Off}
-use Rattle.lk_law.specs.Snapshot.{Snapshot}
-use Rattle.lk_law.specs.SpinWorld.{IsSoundSpinWorld}
-use Rattle.lk_law.specs.Steps.{led, stores_word, stores_next}
-use Rattle.lk_law.specs.World.{World}
-use Rattle.lk_law.proofs.common.Cases.{waiter_cases, lock_cases}
-use Rattle.lk_law.proofs.common.Families.{lists_front}
-use Rattle.lk_law.proofs.common.Knows.{row_knows}
-use Rattle.lk_law.proofs.common.Puts.{not-true}
-use Rattle.lk_law.proofs.common.Sames.{same_lock-true}
-use Rattle.lk_law.proofs.common.Users.{is_node-own, node_is_ones}
-use Rattle.lk_law.proofs.common.Worlds.{phase_on-here, post_on-here}
-use Rattle.lk_waits.specs.Halting.{IsHeadServed, halts_as_head, looks_after}
-use Rattle.lk_waits.proofs.Changed.{Changed, next_frame}
-use Rattle.lk_waits.proofs.HaltingLeads.{tells, Mute, mute}
-use Rattle.lk_waits.proofs.HaltingRows.{tails_kept}
-use Rattle.lk_waits.proofs.Tails.{arrived, elsewhere}
-use Rattle.lk_waits.proofs.Tops.{busy_at}
 
 pub mute_not : (o : Option Pc) (d : Pc) → Mute o → o ≡ Some d → tells (Some d) ≡ true → ⊥
 mute_not o d h e t = let z = ap tells e in cc (z, h, t)

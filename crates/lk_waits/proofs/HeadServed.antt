@@ -1,48 +1,30 @@
 -- Where processors halt, every row keeps it that each head which halts is awaited; and so that heads are
 -- served.
-use Rattle.std.proofs.Common.{◌≡◌, ◌≢◌, inl, inr, ℕ, Option, Some, None, Bool, true, false}
-use Rattle.std.proofs.Common.{refl, sym, ap, ◌∙◌, subst, slice_get}
-use Rattle.std.specs.Prelude.{if◌then◌else◌, is_some}
-use Rattle.lk_names.specs.History.{LockHistory}
-use Rattle.lk_names.specs.declared.names.Waiter.{Waiter}
-use Rattle.lk_names.specs.declared.names.LockName.{LockName}
-use Rattle.lk_word.specs.declared.spin_word.NodeName.{NodeName}
-use Rattle.lk_word.specs.declared.spin_word.Fields.{Fields}
-use Rattle.lk_word.specs.declared.spin_word.Locked.{Locked}
-use Rattle.lk_word.specs.declared.spin_word.Locked.TheVariants.{Held, Slow}
-use Rattle.lk_rows.specs.declared.parts.State.{State}
-use Rattle.lk_rows.specs.declared.parts.State.TheVariants as state
-use Rattle.lk_rows.specs.declared.parts.Frame.{Frame}
-use Rattle.lk_rows.specs.declared.parts.Pc.{Pc}
-use Rattle.lk_rows.specs.declared.parts.Pc.TheVariants.{W5, W6, W7, E2, E8, E11, E12, E13, E14, E15}
-use Rattle.lk_rows.specs.declared.parts.Pc.TheVariants.{K1, K2, U4, U5}
-use Rattle.lk_rows.specs.Moves.{is_node, node_of}
-use Rattle.lk_rows.specs.rows.Pv.{is_set, is_halted, is_slow_byte, pv_after_next, with_byte}
-use Rattle.lk_rows.specs.rows.Cna.{is_last}
-use Rattle.lk_rows.specs.TopRow.{target}
-use Rattle.lk_law.specs.Agree.{LockAgrees, ParaAgrees, halts}
-use Rattle.lk_law.specs.Leads.{stored_in}
-use Rattle.lk_law.specs.Phase.{has_node}
-use Rattle.lk_law.specs.Places.{snapshot, phase_if, own_in, post_at}
-use Rattle.lk_law.specs.Premises.{IsThen, Uses}
-use Rattle.lk_law.specs.Pv.{calls, dozes}
-use Rattle.lk_law.specs.Pv.Post.{Dozes}
-use Rattle.lk_law.specs.Snapshot.{Snapshot}
-use Rattle.lk_law.specs.SpinWorld.{IsSoundSpinWorld}
-use Rattle.lk_law.specs.Steps.{led, row_in}
-use Rattle.lk_law.specs.World.{World}
-use Rattle.lk_law.proofs.common.Cases.{waiter_cases, lock_cases}
+use Rattle.std.proofs.Common.{◌≡◌, ◌≢◌, inl, inr, ℕ, Option, Some, None, Bool, true, false, refl}
+use Rattle.std.proofs.Common.{sym, ap, ◌∙◌, subst, slice_get, if◌then◌else◌, is_some}
+use Rattle.lk_waits.proofs.Names.{Fields, Held, Slow, NodeName, LockHistory, LockName}
+use Rattle.lk_waits.proofs.Names.{Waiter, is_node, node_of, target, Frame, Pc, E2, E8, E11, E12}
+use Rattle.lk_waits.proofs.Names.{E13, E14, E15, K1, K2, U4, U5, W5, W6, W7, State, is_last}
+use Rattle.lk_waits.proofs.Names.{is_halted, is_set, is_slow_byte, pv_after_next, lock_cases}
+use Rattle.lk_waits.proofs.Names.{waiter_cases, is_node-own, node_is_ones, LockAgrees, halts}
+use Rattle.lk_waits.proofs.Names.{stored_in, own_in, phase_if, post_at, snapshot, IsThen, Uses}
+use Rattle.lk_waits.proofs.Names.{Snapshot, IsSoundSpinWorld, led, row_in, World, IsAwaited}
+use Rattle.lk_waits.proofs.Names.{IsHeadServed, halts_as_head, looks_after}
+use Rattle.lk_rows.specs.rows.Pv.{with_byte}
 use Rattle.lk_law.proofs.common.Knows.{named_front_is_used, halting_next_is_used}
-use Rattle.lk_law.proofs.common.Users.{is_node-own, node_is_ones}
-use Rattle.lk_waits.specs.Halting.{RowKeepsServed, IsHeadServed, IsAwaited, IsLookedAfter, OwesKick, halts_as_head, looks_after}
+use Rattle.lk_law.specs.{Agree.ParaAgrees, Phase.has_node, Pv.{calls, dozes}, Pv.Post.Dozes}
 use Rattle.lk_waits.proofs.Changed.{Changed, next_frame, row_changed}
 use Rattle.lk_waits.proofs.HaltingLeads.{tells, mute, flags_stay, flags_handed}
-use Rattle.lk_waits.proofs.HaltingRows.{bytes_kept, elsewhere_word, here_word, kicks_stay, kick_made}
-use Rattle.lk_waits.proofs.HeadLinked.{mute_not, halts_tells, looks_cases, handoff, slow_rows, halted_is, slow_is}
-use Rattle.lk_waits.proofs.HeadLinked.{calls_busy, calls_row, follows_busy, set_leads, at_halting, halts_no, after_out, out}
-use Rattle.lk_waits.proofs.HeadLinked.{posted_at, posted, front, front_halts, one_first, waking, same_frame}
+use Rattle.lk_waits.proofs.HaltingRows.{bytes_kept, elsewhere_word, here_word, kicks_stay}
+use Rattle.lk_waits.proofs.HaltingRows.{kick_made}
+use Rattle.lk_waits.proofs.HeadLinked.{mute_not, halts_tells, looks_cases, handoff, slow_rows}
+use Rattle.lk_waits.proofs.HeadLinked.{halted_is, slow_is, calls_busy, calls_row, follows_busy}
+use Rattle.lk_waits.proofs.HeadLinked.{set_leads, at_halting, halts_no, after_out, out, posted_at}
+use Rattle.lk_waits.proofs.HeadLinked.{posted, front, front_halts, one_first, waking, same_frame}
 use Rattle.lk_waits.proofs.HeadLinked.{goes_at, goes_told, was_acting, still_followed}
 use Rattle.lk_waits.proofs.Tops.{busy_at}
+use Rattle.lk_waits.specs.Halting.{RowKeepsServed, IsLookedAfter, OwesKick}
+use Rattle.lk_rows.specs.declared.parts.State.TheVariants as state
 
 module _ (a : World) (hs : LockName → LockHistory) (ok : IsSoundSpinWorld a hs) (on : halts a.mode ≡ true) where
   abbrev s : Snapshot

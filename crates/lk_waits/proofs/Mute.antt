@@ -1,34 +1,14 @@
 -- From which rows a frame comes to where it shows that it leads.
-use Rattle.std.proofs.Common.{◌≡◌, inl, inr, ℕ, Option, Some, None, Bool, true, false}
-use Rattle.std.proofs.Common.{refl, ap}
-use Rattle.std.proofs.lemmas.Bool.{cases_Bool}
-use Rattle.std.specs.Prelude.{if◌then◌else◌, is_some, ◌&&◌, not, ◌==◌}
-use Rattle.lk_names.specs.declared.names.Mode.{Mode}
-use Rattle.lk_names.specs.declared.names.Mode.TheVariants.{Virt, Native, Cna, Pv}
-use Rattle.lk_names.specs.declared.names.Waiter.{Waiter}
-use Rattle.lk_word.specs.declared.spin_word.NodeName.{NodeName}
-use Rattle.lk_word.specs.declared.spin_word.Fields.{Fields}
-use Rattle.lk_word.specs.declared.rw_word.RwFields.{RwFields}
-use Rattle.lk_rows.specs.declared.parts.Frame.{Frame}
-use Rattle.lk_rows.specs.declared.parts.Pc.{Pc}
-use Rattle.lk_rows.specs.declared.parts.Pc.TheVariants.{F1, T1, T2, U1, V1, V2, P0, P1, P2, P3}
-use Rattle.lk_rows.specs.declared.parts.Pc.TheVariants.{P4, G1, G2, G3, G4, G5, G6, G7, G8, G9}
-use Rattle.lk_rows.specs.declared.parts.Pc.TheVariants.{G10, G11, N1, N2}
-use Rattle.lk_rows.specs.declared.parts.Pc.TheVariants.{R1, R2, R3, R4, R5, Wr1, Wr2, Wr3, Wr4}
-use Rattle.lk_rows.specs.declared.parts.Pc.TheVariants.{Wr5, Wr6, Y1, Y2, Y3, Y4, Y5, Z1, Z2}
-use Rattle.lk_rows.specs.declared.setup.Verb.TheVariants.{Unlock}
-use Rattle.lk_rows.specs.Moves.{first_place}
-use Rattle.lk_rows.specs.Row.{Effect, Lead}
-use Rattle.lk_rows.specs.rows.Spin.{is_free, is_unlocked, to_queue, after_fast}
-use Rattle.lk_rows.specs.rows.Queue.{own_node, after_entry}
-use Rattle.lk_rows.specs.rows.Queue.{after_link}
-use Rattle.lk_rows.specs.rows.Rw.{is_empty, is_open, is_cleared}
-use Rattle.lk_rows.specs.TopRow.{target}
-use Rattle.lk_law.specs.Families.{may_halt, chooses}
-use Rattle.lk_law.specs.Leads.{course_in}
-use Rattle.lk_law.specs.Premises.{IsThen}
-use Rattle.lk_law.specs.Steps.{led}
-use Rattle.lk_law.specs.World.{World}
+use Rattle.std.proofs.Common.{◌≡◌, inl, inr, ℕ, Option, Some, None, Bool, true, false, refl, ap}
+use Rattle.std.proofs.Common.{if◌then◌else◌, is_some, ◌&&◌, not, ◌==◌}
+use Rattle.lk_waits.proofs.Names.{cases_Bool, RwFields, Fields, NodeName, Mode, Cna, Native, Pv}
+use Rattle.lk_waits.proofs.Names.{Virt, Waiter, first_place, Effect, Lead, target, Frame, Pc, F1}
+use Rattle.lk_waits.proofs.Names.{G1, G2, G3, G4, G5, G6, G7, G8, G9, G10, G11, N1, N2, P0, P1, P2}
+use Rattle.lk_waits.proofs.Names.{P3, P4, R1, R2, R3, R4, R5, T1, T2, U1, V1, V2, Wr1, Wr2, Wr3}
+use Rattle.lk_waits.proofs.Names.{Wr4, Wr5, Wr6, Y1, Y2, Y3, Y4, Y5, Z1, Z2, Unlock, after_entry}
+use Rattle.lk_waits.proofs.Names.{after_link, own_node, is_cleared, is_empty, is_open, after_fast}
+use Rattle.lk_waits.proofs.Names.{is_free, is_unlocked, to_queue, chooses, may_halt, course_in}
+use Rattle.lk_waits.proofs.Names.{IsThen, led, World}
 
 -- a place at which the frame has something to show: a head that was led on, or that looks at the
 -- word

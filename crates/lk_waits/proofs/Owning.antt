@@ -1,7 +1,7 @@
 -- The phases that hold the lock, without the program's knowing it yet.
-use Rattle.std.specs.Prelude.{Bool, true, false}
-use Rattle.lk_law.specs.Phase.{Phase}
-use Rattle.lk_law.specs.Phase.Phase.{Holds, Hands, Tends}
+use Rattle.std.proofs.Common.{Bool, true, false}
+use Rattle.lk_waits.proofs.Names.{Phase, Holds}
+use Rattle.lk_law.specs.Phase.Phase.{Hands, Tends}
 
 abbrev pub owns : Phase → Bool
 owns Holds = true

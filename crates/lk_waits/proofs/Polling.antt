@@ -1,31 +1,16 @@
 -- In which phase a frame is that polls, and what a word says that is not free.
-use Rattle.std.proofs.Common.{◌≡◌, ◌≢◌, ◌⊎◌, inl, inr, ℕ, zero, suc, ◌<◌, Option, Some, None, Bool, true, false, refl}
-use Rattle.std.proofs.Common.{subst, arith}
-use Rattle.std.proofs.lemmas.Bool.{cases_Bool}
+use Rattle.std.proofs.Common.{◌≡◌, ◌≢◌, ◌⊎◌, inl, inr, ℕ, zero, suc, ◌<◌, Option, Some, None, Bool}
+use Rattle.std.proofs.Common.{true, false, refl, subst, arith}
+use Rattle.lk_waits.proofs.Names.{cases_Bool, RwFields, Fields, Locked, Free, NodeName, Spins, Flag}
+use Rattle.lk_waits.proofs.Names.{Frame, Pc, G6, G7, G10, P3, R2, R5, is_cleared, is_free}
+use Rattle.lk_waits.proofs.Names.{is_unlocked, chooses, is_rw_row, may_halt, Phase, leads, pends}
+use Rattle.lk_waits.proofs.Names.{Idle, Links, phase_at, biased, spins, lock_at, polls}
 use Rattle.lk_names.specs.declared.holder.Manner.{Manner}
-use Rattle.lk_names.specs.declared.holder.Manner.TheVariants.{Spins, Reads, Writes}
-use Rattle.lk_word.specs.declared.spin_word.NodeName.{NodeName}
-use Rattle.lk_word.specs.declared.spin_word.Fields.{Fields}
-use Rattle.lk_word.specs.declared.spin_word.Locked.{Locked}
-use Rattle.lk_word.specs.declared.spin_word.Locked.TheVariants.{Free}
-use Rattle.lk_word.specs.declared.rw_word.RwFields.{RwFields}
-use Rattle.lk_rows.specs.declared.parts.Flag.{Flag}
-use Rattle.lk_rows.specs.declared.parts.Flag.TheVariants as flag
-use Rattle.lk_rows.specs.declared.parts.Frame.{Frame}
-use Rattle.lk_rows.specs.declared.parts.Pc.{Pc}
-use Rattle.lk_rows.specs.declared.parts.Pc.TheVariants.{P3, G6, G7, G10, R2, R5}
-use Rattle.lk_rows.specs.rows.Spin.{is_free, is_unlocked}
-use Rattle.lk_rows.specs.rows.Rw.{is_cleared}
-use Rattle.lk_law.specs.Families.{may_halt, chooses, is_rw_row}
-use Rattle.lk_law.specs.Phase.{Phase, has_lock, pends, leads}
-use Rattle.lk_law.specs.Phase.Phase.{Idle, Links}
-use Rattle.lk_law.specs.Places.{phase_at}
-use Rattle.lk_law.specs.RwPhase.{biased, reads}
-use Rattle.lk_law.specs.SoundWorld.{rw_own_phase}
-use Rattle.lk_law.specs.Snapshot.{spins}
+use Rattle.lk_names.specs.declared.holder.Manner.TheVariants.{Reads, Writes}
+use Rattle.lk_law.specs.{Phase.has_lock, RwPhase.reads, SoundWorld.rw_own_phase}
 use Rattle.lk_waits.proofs.Owning.{owns}
-use Rattle.lk_waits.specs.Waits.{polls, lock_at}
 use Rattle.lk_waits.specs.Order.{is_coming}
+use Rattle.lk_rows.specs.declared.parts.Flag.TheVariants as flag
 
 -- phases and rows
 

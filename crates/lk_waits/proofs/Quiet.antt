@@ -1,30 +1,18 @@
 -- A place at which an operation begins shows nothing: what is true of heads that wait for a successor stays
 -- where a frame comes to such a place, or goes from one.
-use Rattle.std.proofs.Common.{◌≡◌, ◌≢◌, ◌⊎◌, inl, inr, ℕ, Some, None, true, false, refl, sym, ap, ◌∙◌, arith, Bool}
-use Rattle.lk_names.specs.declared.names.Mode.{Mode}
-use Rattle.lk_names.specs.declared.names.Mode.TheVariants.{Virt, Native, Cna, Pv}
-use Rattle.lk_names.specs.declared.names.Waiter.{Waiter}
-use Rattle.lk_names.specs.declared.names.LockName.{LockName}
-use Rattle.lk_word.specs.declared.spin_word.NodeName.{NodeName}
-use Rattle.lk_word.specs.declared.spin_word.Fields.{Fields}
-use Rattle.lk_rows.specs.rows.Pv.{is_set}
+use Rattle.std.proofs.Common.{◌≡◌, ◌≢◌, ◌⊎◌, inl, inr, ℕ, Some, None, true, false, refl, sym, ap}
+use Rattle.std.proofs.Common.{◌∙◌, arith, Bool}
+use Rattle.lk_waits.proofs.Names.{Fields, NodeName, LockName, Mode, Cna, Native, Pv, Virt, Waiter}
+use Rattle.lk_waits.proofs.Names.{first_place, is_node, node_of, Flag, Frame, Pc, E12, E14, G7, K1}
+use Rattle.lk_waits.proofs.Names.{K2, N1, N2, U5, W6, Why, Unlock, is_set, waiter_cases, World}
+use Rattle.lk_waits.proofs.Names.{is_alone_row, IsAwaited, IsHeadServed, halts_as_head, looks_after}
+use Rattle.lk_waits.proofs.Names.{IsFollowedBy, SomebodyComesBy, comes_by, is_led_on}
 use Rattle.lk_rows.specs.declared.setup.Verb.{Verb}
-use Rattle.lk_rows.specs.declared.setup.Verb.TheVariants.{Lock, Try, Unlock, Read, TryRead}
-use Rattle.lk_rows.specs.declared.setup.Verb.TheVariants.{RUnlock, Write, TryWrite, WUnlock}
-use Rattle.lk_rows.specs.declared.parts.Frame.{Frame}
-use Rattle.lk_rows.specs.declared.parts.Pc.{Pc}
-use Rattle.lk_rows.specs.declared.parts.Flag.{Flag}
-use Rattle.lk_rows.specs.declared.parts.Pc.TheVariants.{G7, N1, N2, W6, E12, E14, K1, K2, U5}
-use Rattle.lk_rows.specs.declared.parts.Why.{Why}
-use Rattle.lk_rows.specs.Moves.{is_node, node_of, first_place}
-use Rattle.lk_law.specs.World.{World}
-use Rattle.lk_law.proofs.common.Cases.{waiter_cases}
-use Rattle.lk_waits.specs.Aside.{IsFollowedAside, IsFollowedAsideBy, is_alone_row}
+use Rattle.lk_rows.specs.declared.setup.Verb.TheVariants.{Lock, Try, Read, TryRead, RUnlock, Write}
+use Rattle.lk_rows.specs.declared.setup.Verb.TheVariants.{TryWrite, WUnlock}
 use Rattle.lk_waits.proofs.HaltingLeads.{tells}
+use Rattle.lk_waits.specs.{Aside.{IsFollowedAside, IsFollowedAsideBy}, Attended.is_bare}
 use Rattle.lk_waits.specs.Followed.{IsHeadFollowed, IsHeadLed, IsUnaware}
-use Rattle.lk_waits.specs.Attended.{is_bare}
-use Rattle.lk_waits.specs.Halting.{IsHeadServed, IsAwaited, halts_as_head, looks_after}
-use Rattle.lk_waits.specs.Order.{SomebodyComesBy, IsFollowedBy, is_led_on, comes_by}
 
 -- the row is one of a holder that looks after the head, or of a release that kicks
 abbrev pub is_tending : Pc → Bool

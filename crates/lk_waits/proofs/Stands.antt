@@ -1,41 +1,18 @@
 -- Which rows can leave a frame where it was, and what they met then.
-use Rattle.std.proofs.Common.{◌≡◌, inl, inr, Option, Some, None, Bool, true, false}
-use Rattle.std.proofs.Common.{refl, sym, ap, ◌∙◌}
-use Rattle.std.proofs.lemmas.Bool.{cases_Bool}
-use Rattle.std.specs.Prelude.{if◌then◌else◌, is_some, ◌&&◌, not, ◌-◌, ◌==◌}
-use Rattle.lk_names.specs.Names.{same_waiter}
-use Rattle.lk_names.specs.declared.names.Mode.{Mode}
-use Rattle.lk_names.specs.declared.names.Mode.TheVariants.{Virt, Native, Cna, Pv}
-use Rattle.lk_names.specs.declared.names.Waiter.{Waiter}
-use Rattle.lk_word.specs.declared.spin_word.NodeName.{NodeName}
-use Rattle.lk_word.specs.declared.spin_word.Fields.{Fields}
-use Rattle.lk_word.specs.declared.rw_word.RwFields.{RwFields}
-use Rattle.lk_rows.specs.declared.parts.Flag.{Flag}
+use Rattle.std.proofs.Common.{◌≡◌, inl, inr, Option, Some, None, Bool, true, false, refl, sym, ap}
+use Rattle.std.proofs.Common.{◌∙◌, if◌then◌else◌, is_some, ◌&&◌, not, ◌==◌}
+use Rattle.lk_waits.proofs.Names.{cases_Bool, RwFields, Fields, NodeName, same_waiter, Mode, Cna}
+use Rattle.lk_waits.proofs.Names.{Native, Pv, Virt, Waiter, first_place, is_node, node_of, Effect}
+use Rattle.lk_waits.proofs.Names.{target, Flag, Frame, Pc, F1, G1, G2, G3, G4, G5, G6, G7, G8, G9}
+use Rattle.lk_waits.proofs.Names.{G10, G11, N1, N2, P0, P1, P2, P3, P4, R1, R2, R3, R4, R5, T1, T2}
+use Rattle.lk_waits.proofs.Names.{U1, U2, V1, V2, Wr1, Wr2, Wr3, Wr4, Wr5, Wr6, Y1, Y2, Y3, Y4, Y5}
+use Rattle.lk_waits.proofs.Names.{Z1, Z2, Unlock, after_arrival, after_entry, after_flag}
+use Rattle.lk_waits.proofs.Names.{after_head, after_link, after_next, is_sole, own_node, is_cleared}
+use Rattle.lk_waits.proofs.Names.{is_empty, is_open, after_fast, is_free, is_unlocked, if-true}
+use Rattle.lk_waits.proofs.Names.{same_waiter-self, row_is_done, chooses, may_halt, course_in}
+use Rattle.lk_waits.proofs.Names.{IsThen, led, World, StandsStill, polls}
+use Rattle.lk_rows.specs.rows.Rw.{frees_wait}
 use Rattle.lk_rows.specs.declared.parts.Flag.TheVariants as flag
-use Rattle.lk_rows.specs.declared.parts.Frame.{Frame}
-use Rattle.lk_rows.specs.declared.parts.Pc.{Pc}
-use Rattle.lk_rows.specs.declared.parts.Pc.TheVariants.{F1, T1, T2, U1, V1, V2, P0, P1, P2, P3}
-use Rattle.lk_rows.specs.declared.parts.Pc.TheVariants.{P4, G1, G2, G3, G4, G5, G6, G7, G8, G9}
-use Rattle.lk_rows.specs.declared.parts.Pc.TheVariants.{G10, G11, N1, N2}
-use Rattle.lk_rows.specs.declared.parts.Pc.TheVariants.{R1, R2, R3, R4, R5, Wr1, Wr2, Wr3, Wr4}
-use Rattle.lk_rows.specs.declared.parts.Pc.TheVariants.{Wr5, Wr6, Y1, Y2, Y3, Y4, Y5, Z1, Z2, U2}
-use Rattle.lk_rows.specs.declared.setup.Verb.TheVariants.{Unlock}
-use Rattle.lk_rows.specs.Moves.{is_node, node_of, first_place}
-use Rattle.lk_rows.specs.Row.{Effect}
-use Rattle.lk_rows.specs.rows.Spin.{is_free, is_unlocked, after_fast}
-use Rattle.lk_rows.specs.rows.Queue.{is_sole, own_node, after_entry, after_arrival}
-use Rattle.lk_rows.specs.rows.Queue.{after_head, after_flag, after_next, after_link}
-use Rattle.lk_rows.specs.rows.Rw.{is_empty, is_open, is_cleared, frees_wait}
-use Rattle.lk_rows.specs.TopRow.{target}
-use Rattle.lk_law.specs.Families.{may_halt, chooses}
-use Rattle.lk_law.specs.Leads.{course_in}
-use Rattle.lk_law.specs.Premises.{IsThen}
-use Rattle.lk_law.specs.Steps.{led}
-use Rattle.lk_law.specs.World.{World}
-use Rattle.lk_law.proofs.common.Puts.{if-true}
-use Rattle.lk_law.proofs.common.Sames.{same_waiter-self}
-use Rattle.lk_law.proofs.running.Leads.{row_is_done}
-use Rattle.lk_waits.specs.Waits.{polls, StandsStill}
 
 -- the place is not this row
 abbrev pub Off : Pc → Option Pc → Type 0

@@ -1,39 +1,15 @@
 -- What rows do to the tails of words; and who comes to a queue goes on so.
-use Rattle.std.proofs.Common.{◌≡◌, ◌≢◌, ◌⊎◌, ◌<◌, inl, inr, ℕ, Option, Some, None, Bool, true, false}
-use Rattle.std.proofs.Common.{refl, sym, ap, ◌∙◌, subst, arith}
-use Rattle.std.specs.Prelude.{if◌then◌else◌, is_some}
-use Rattle.lk_names.specs.Names.{same_lock}
-use Rattle.lk_names.specs.declared.names.Mode.{Mode}
-use Rattle.lk_names.specs.declared.names.Mode.TheVariants.{Virt, Native, Cna, Pv}
-use Rattle.lk_names.specs.declared.names.Waiter.{Waiter}
-use Rattle.lk_names.specs.declared.names.LockName.{LockName}
-use Rattle.lk_word.specs.declared.spin_word.NodeName.{NodeName}
-use Rattle.lk_word.specs.declared.spin_word.Fields.{Fields}
-use Rattle.lk_word.specs.declared.rw_word.RwFields.{RwFields}
-use Rattle.lk_rows.specs.declared.parts.Flag.{Flag}
-use Rattle.lk_rows.specs.declared.parts.Frame.{Frame}
-use Rattle.lk_rows.specs.declared.parts.Pc.{Pc}
-use Rattle.lk_rows.specs.declared.parts.Pc.TheVariants.{F1, T1, T2, U1, V1, V2, P0, P1, P2, P3}
-use Rattle.lk_rows.specs.declared.parts.Pc.TheVariants.{P4, G1, G2, G3, G4, G5, G6, G7, G8, G9}
-use Rattle.lk_rows.specs.declared.parts.Pc.TheVariants.{G10, G11, N1, N2}
-use Rattle.lk_rows.specs.declared.parts.Pc.TheVariants.{R1, R2, R3, R4, R5, Wr1, Wr2, Wr3, Wr4}
-use Rattle.lk_rows.specs.declared.parts.Pc.TheVariants.{Wr5, Wr6, Y1, Y2, Y3, Y4, Y5, Z1, Z2}
-use Rattle.lk_rows.specs.Moves.{node_of}
-use Rattle.lk_rows.specs.Row.{Effect}
-use Rattle.lk_rows.specs.rows.Spin.{is_free}
-use Rattle.lk_rows.specs.rows.Queue.{is_sole, own_node, after_entry}
-use Rattle.lk_rows.specs.rows.Queue.{entry_row, next_row, flag_row}
-use Rattle.lk_rows.specs.rows.Rw.{rw_row}
-use Rattle.lk_rows.specs.TopRow.{target}
-use Rattle.lk_law.specs.Agree.{halts}
-use Rattle.lk_law.specs.Families.{may_halt, chooses}
-use Rattle.lk_law.specs.Leads.{course_in, stored_in}
-use Rattle.lk_law.specs.Steps.{led}
-use Rattle.lk_law.specs.World.{World}
-use Rattle.lk_law.proofs.common.Cases.{lock_cases}
-use Rattle.lk_law.proofs.common.Puts.{if-true, if-false, same_lock-else}
-use Rattle.lk_law.proofs.common.Sames.{same_lock-self}
-use Rattle.lk_waits.specs.Order.{comes_by}
+use Rattle.std.proofs.Common.{◌≡◌, ◌≢◌, ◌⊎◌, ◌<◌, inl, inr, ℕ, Option, Some, None, Bool, true}
+use Rattle.std.proofs.Common.{false, refl, sym, ap, ◌∙◌, subst, arith, if◌then◌else◌, is_some}
+use Rattle.lk_waits.proofs.Names.{RwFields, Fields, NodeName, same_lock, LockName, Mode, Cna}
+use Rattle.lk_waits.proofs.Names.{Native, Pv, Virt, Waiter, node_of, Effect, target, Flag, Frame}
+use Rattle.lk_waits.proofs.Names.{Pc, F1, G1, G2, G3, G4, G5, G6, G7, G8, G9, G10, G11, N1, N2, P0}
+use Rattle.lk_waits.proofs.Names.{P1, P2, P3, P4, R1, R2, R3, R4, R5, T1, T2, U1, V1, V2, Wr1, Wr2}
+use Rattle.lk_waits.proofs.Names.{Wr3, Wr4, Wr5, Wr6, Y1, Y2, Y3, Y4, Y5, Z1, Z2, after_entry}
+use Rattle.lk_waits.proofs.Names.{entry_row, flag_row, is_sole, next_row, own_node, rw_row, is_free}
+use Rattle.lk_waits.proofs.Names.{lock_cases, if-false, if-true, same_lock-else, same_lock-self}
+use Rattle.lk_waits.proofs.Names.{halts, chooses, may_halt, course_in, stored_in, led, World}
+use Rattle.lk_waits.proofs.Names.{comes_by}
 
 -- a store that leaves the tail, or leaves none
 abbrev Leaves_tail : Option NodeName → Option Fields → Type 0

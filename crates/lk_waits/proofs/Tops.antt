@@ -1,26 +1,15 @@
 -- The newest frame of a processor; and which frame is in a phase.
-use Rattle.std.proofs.Common.{◌≡◌, ◌≢◌, ◌⊎◌, inl, inr, ℕ, zero, suc, ◌<◌, ◌≤◌, Option, Some, None, Bool}
-use Rattle.std.proofs.Common.{true, false, refl, ap, ◌∙◌, subst, arith}
-use Rattle.std.proofs.lemmas.Bool.{cases_lt, eqb-true}
-use Rattle.std.specs.Prelude.{if◌then◌else◌, is_some, ◌==◌}
-use Rattle.lk_names.specs.Names.{same_lock}
-use Rattle.lk_names.specs.declared.names.Waiter.{Waiter}
-use Rattle.lk_names.specs.declared.names.LockName.{LockName}
-use Rattle.lk_rows.specs.declared.parts.Frame.{Frame}
-use Rattle.lk_rows.specs.declared.parts.Pc.{Pc}
-use Rattle.lk_rows.specs.Moves.{node_of, rw_name}
-use Rattle.lk_law.specs.Families.{is_rw_row}
-use Rattle.lk_law.specs.Phase.Phase.{Idle}
-use Rattle.lk_law.specs.Places.{snapshot, phase_at, phase_if, phase_of, phase_on}
-use Rattle.lk_law.specs.Premises.{IsShallow}
-use Rattle.lk_law.specs.RwPhase.{biased}
-use Rattle.lk_law.specs.RwPhase.RwPhase.{Away}
-use Rattle.lk_law.specs.SoundWorld.{rw_phases, rw_phase_on, rw_phase_if, rw_own_phase, rw_wait_phase}
-use Rattle.lk_law.specs.SoundWorld.{Part, part_of}
-use Rattle.lk_law.specs.SpinWorld.{HasNoneAbove}
-use Rattle.lk_law.specs.World.{World}
+use Rattle.std.proofs.Common.{◌≡◌, ◌≢◌, ◌⊎◌, inl, inr, ℕ, zero, suc, ◌<◌, ◌≤◌, Option, Some, None}
+use Rattle.std.proofs.Common.{Bool, true, false, refl, ap, ◌∙◌, subst, arith, if◌then◌else◌}
+use Rattle.std.proofs.Common.{is_some, ◌==◌}
+use Rattle.std.proofs.lemmas.Bool.{eqb-true}
+use Rattle.lk_waits.proofs.Names.{cases_lt, same_lock, LockName, Waiter, node_of, rw_name, Frame}
+use Rattle.lk_waits.proofs.Names.{Pc, is_rw_row, Idle, phase_at, phase_if, phase_on, snapshot}
+use Rattle.lk_waits.proofs.Names.{biased, HasNoneAbove, World, lock_at}
 use Rattle.lk_law.proofs.common.Sames.{same_lock-true}
-use Rattle.lk_waits.specs.Waits.{lock_at}
+use Rattle.lk_law.specs.{Places.phase_of, Premises.IsShallow, RwPhase.RwPhase.Away}
+use Rattle.lk_law.specs.SoundWorld.{rw_phases, rw_phase_on, rw_phase_if, rw_own_phase}
+use Rattle.lk_law.specs.SoundWorld.{rw_wait_phase, Part, part_of}
 
 -- the newest frame of the processor of u
 pub record Newest (m : World) (u : Waiter) : Type 0 where

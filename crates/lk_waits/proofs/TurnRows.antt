@@ -1,39 +1,18 @@
 -- Heads of `cna` that may turn on the spot, and which rows of the choice leave their frame.
-use Rattle.std.proofs.Common.{◌≡◌, ◌≢◌, ◌⊎◌, inl, inr, ◌+◌, Option, Some, None, Bool, true, false, refl, sym, ap, ◌∙◌}
-use Rattle.std.proofs.Common.{subst, arith, [], ◌∷◌}
-use Rattle.std.specs.Prelude.{if◌then◌else◌, is_some}
-use Rattle.lk_names.specs.declared.names.Waiter.{Waiter}
-use Rattle.lk_word.specs.declared.spin_word.NodeName.{NodeName}
-use Rattle.lk_word.specs.declared.spin_word.Fields.{Fields}
-use Rattle.lk_word.specs.declared.spin_word.Locked.TheVariants.{Held}
-use Rattle.lk_rows.specs.declared.parts.Flag.{Flag}
-use Rattle.lk_rows.specs.declared.parts.Flag.TheVariants as flag
-use Rattle.lk_rows.specs.declared.parts.Frame.{Frame}
-use Rattle.lk_rows.specs.declared.parts.Pc.{Pc}
-use Rattle.lk_rows.specs.declared.parts.Pc.TheVariants.{G6, G7, C1, C2, C3, C4, C5, C6, C7, C8, C9, C10}
-use Rattle.lk_rows.specs.Moves.{is_node, node_of}
-use Rattle.lk_law.specs.Families.{may_halt, chooses}
-use Rattle.lk_law.specs.Phase.{leads}
-use Rattle.lk_law.specs.Phase.Phase.{Holds}
-use Rattle.lk_law.specs.Places.{snapshot, phase_at, stage_of}
-use Rattle.lk_law.specs.Stage.{cut_of}
+use Rattle.std.proofs.Common.{◌≡◌, ◌≢◌, ◌⊎◌, inl, inr, ◌+◌, Option, Some, None, Bool, true, false}
+use Rattle.std.proofs.Common.{refl, sym, ap, ◌∙◌, subst, arith, [], ◌∷◌, if◌then◌else◌, is_some}
+use Rattle.lk_waits.proofs.Names.{Fields, Held, NodeName, same_waiter, Waiter, is_node, node_of}
+use Rattle.lk_waits.proofs.Names.{target, Flag, Frame, Pc, C1, C2, C3, C4, C5, C6, C7, C8, C9, C10}
+use Rattle.lk_waits.proofs.Names.{G6, G7, Why, after_tail, is_last, may_stay, search_first}
+use Rattle.lk_waits.proofs.Names.{search_on, if-true, same_waiter-self, row_is_done, chooses}
+use Rattle.lk_waits.proofs.Names.{may_halt, course_in, leads, Holds, phase_at, snapshot, IsThen}
+use Rattle.lk_waits.proofs.Names.{led, sight_in, World, is_alone_row, StandsStill, polls}
+use Rattle.lk_rows.specs.{Row.{learns_all, K, Y, A, B, Reason, Second}, rows.Cna.Sight}
+use Rattle.lk_law.specs.{Places.stage_of, Registers.hands_plainly, Stage.cut_of}
 use Rattle.lk_waits.proofs.Owning.{owns}
-use Rattle.lk_waits.specs.Aside.{is_alone_row}
-use Rattle.lk_law.specs.World.{World}
-use Rattle.lk_law.proofs.common.Puts.{if-true}
-use Rattle.lk_waits.specs.Waits.{polls, StandsStill, IsBarred}
-use Rattle.lk_rows.specs.declared.parts.Why.{Why}
+use Rattle.lk_waits.specs.Waits.{IsBarred}
+use Rattle.lk_rows.specs.declared.parts.Flag.TheVariants as flag
 use Rattle.lk_rows.specs.declared.parts.Why.TheVariants as why
-use Rattle.lk_rows.specs.rows.Cna.{is_last, Sight, search_first, search_on, after_tail, may_stay}
-use Rattle.lk_rows.specs.TopRow.{target}
-use Rattle.lk_rows.specs.Row.{learns_all, K, Y, A, B, Reason, Second}
-use Rattle.lk_law.specs.Premises.{IsThen}
-use Rattle.lk_law.specs.Leads.{course_in}
-use Rattle.lk_law.specs.Steps.{led, sight_in}
-use Rattle.lk_law.specs.Registers.{hands_plainly}
-use Rattle.lk_law.proofs.common.Sames.{same_waiter-self}
-use Rattle.lk_law.proofs.running.Leads.{row_is_done}
-use Rattle.lk_names.specs.Names.{same_waiter}
 
 -- a head that may turn on the spot
 abbrev pub IsTurn : Pc → Type 0

@@ -1,32 +1,18 @@
 -- Where all newest frames poll: who holds a lock, or is at work on it, has on its processor a newest frame
 -- that polls at a higher level, or holds outside.
 use Rattle.std.proofs.Common.{◌≡◌, ◌≢◌, ◌⊎◌, inl, inr, ℕ, ◌<◌, ◌≤◌, Option, Some, None, Bool, true}
-use Rattle.std.proofs.Common.{false, refl, sym, ap, ◌∙◌, subst, arith, List, [], ◌∷◌, length, slice_get}
-use Rattle.std.proofs.lemmas.Bool.{cases_Bool, cases_lt}
-use Rattle.lk_names.specs.History.{LockHistory}
+use Rattle.std.proofs.Common.{false, refl, sym, ap, ◌∙◌, subst, arith, List, [], ◌∷◌, length}
+use Rattle.std.proofs.Common.{slice_get}
+use Rattle.lk_waits.proofs.Names.{cases_Bool, cases_lt, LockHistory, Rw, LockName, Waiter, rw_name}
+use Rattle.lk_waits.proofs.Names.{Frame, Pc, R2, R5, is_rw_row, Idle, snapshot, biased, Snapshot}
+use Rattle.lk_waits.proofs.Names.{spins, IsSoundWorld, HasNoneAbove, World, HoldsOutside, IsRanked}
+use Rattle.lk_waits.proofs.Names.{IsTidy, IsTop, lock_at, polls}
 use Rattle.lk_names.specs.declared.holder.Manner.{Manner}
 use Rattle.lk_names.specs.declared.holder.Manner.TheVariants.{Reads, Writes}
-use Rattle.lk_names.specs.declared.names.Kind.TheVariants.{Rw}
-use Rattle.lk_names.specs.declared.names.Waiter.{Waiter}
-use Rattle.lk_names.specs.declared.names.LockName.{LockName}
-use Rattle.lk_rows.specs.declared.parts.Frame.{Frame}
-use Rattle.lk_rows.specs.declared.parts.Pc.{Pc}
-use Rattle.lk_rows.specs.declared.parts.Pc.TheVariants.{R2, R5}
-use Rattle.lk_rows.specs.Moves.{rw_name}
-use Rattle.lk_law.specs.Families.{is_rw_row}
-use Rattle.lk_law.specs.Phase.Phase.{Idle}
-use Rattle.lk_law.specs.Places.{snapshot}
-use Rattle.lk_law.specs.RwAgree.{RwAgrees}
-use Rattle.lk_law.specs.RwPhase.{RwPhase, biased, reads, is_counted}
-use Rattle.lk_law.specs.SoundWorld.{IsSoundWorld, rw_phases}
-use Rattle.lk_law.specs.Snapshot.{Snapshot, spins}
-use Rattle.lk_law.specs.SpinWorld.{HasNoneAbove}
-use Rattle.lk_law.specs.World.{World}
-use Rattle.lk_waits.specs.Waits.{polls, lock_at, IsTop}
-use Rattle.lk_waits.specs.Order.{IsTidy, IsRanked, HoldsOutside}
+use Rattle.lk_law.specs.{RwAgree.RwAgrees, RwPhase.{RwPhase, reads, is_counted}}
+use Rattle.lk_law.specs.SoundWorld.{rw_phases}
+use Rattle.lk_waits.proofs.Polling.{plain_lock, biased_polls, reads_is}
 use Rattle.lk_waits.proofs.Tops.{newest_of, any_newest, IsAt, busy_at, busy_lock, biased_at}
-use Rattle.lk_waits.proofs.Polling.{plain_lock}
-use Rattle.lk_waits.proofs.Polling.{biased_polls, reads_is}
 
 -- somebody polls at a lock of a higher level
 pub record Higher (level : LockName → ℕ) (m : World) (n : ℕ) : Type 0 where

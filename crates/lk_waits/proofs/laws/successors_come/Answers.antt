@@ -1,7 +1,5 @@
-use Rattle.lk_waits.proofs.AsideFollowed.{row_keeps_aside}
-use Rattle.lk_waits.proofs.Attended.{row_keeps_attended}
-use Rattle.lk_waits.proofs.Followed.{row_keeps_followed}
-use Rattle.lk_waits.proofs.HaltEnds.{ends_keep_served}
+use Rattle.lk_waits.proofs.{AsideFollowed.row_keeps_aside, Attended.row_keeps_attended}
+use Rattle.lk_waits.proofs.{Followed.row_keeps_followed, HaltEnds.ends_keep_served}
 use Rattle.lk_waits.proofs.HeadServed.{row_keeps_served}
 use Rattle.lk_waits.proofs.laws.successors_come.Goals as goal
 
