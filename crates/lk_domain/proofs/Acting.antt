@@ -1,19 +1,11 @@
 -- A call that goes on.
-use Rattle.std.proofs.Common.{◌≡◌, inl, inr, List, [], ◌∷◌, eq-eqb, arith, Option, Some, None, Bool, true, false, refl, sym, ap, ◌∙◌}
-use Rattle.std.proofs.lemmas.Bool.{cases_Bool}
-use Rattle.std.specs.Prelude.{if◌then◌else◌, ◌&&◌}
-use Rattle.lk_names.specs.declared.names.Mode.{Mode}
-use Rattle.lk_names.specs.declared.names.Mode.TheVariants.{Virt, Native, Cna, Pv}
-use Rattle.lk_names.specs.declared.names.LockName.{LockName}
-use Rattle.lk_rows.specs.declared.parts.Pc.{Pc}
-use Rattle.lk_rows.specs.declared.parts.Pc.TheVariants.{F1, T1, U1, U2, R1, Wr1, Y1, Y4, Z1, Z2}
-use Rattle.lk_rows.specs.declared.setup.Verb.{Verb}
-use Rattle.lk_rows.specs.declared.setup.Verb.TheVariants.{Lock, Try, Unlock, Read, TryRead}
-use Rattle.lk_rows.specs.declared.setup.Verb.TheVariants.{RUnlock, Write, TryWrite, WUnlock}
-use Rattle.lk_rows.specs.Moves.{first_place}
-use Rattle.lk_law.proofs.common.Puts.{if-true, if-false}
-use Rattle.lk_domain.specs.Calls.{Calls, Running, StandsOn, acting, begin, is_on, is_verb, Begins}
-use Rattle.lk_domain.specs.declared.plan.Plan.{Plan}
+use Rattle.std.proofs.Common.{◌≡◌, inl, inr, List, [], ◌∷◌, eq-eqb, arith, Option, Some, None, Bool}
+use Rattle.std.proofs.Common.{true, false, refl, sym, ap, ◌∙◌, if◌then◌else◌, ◌&&◌}
+use Rattle.lk_domain.proofs.Names.{cases_Bool, LockName, Mode, Cna, Native, Pv, Virt, first_place}
+use Rattle.lk_domain.proofs.Names.{Pc, F1, R1, T1, U1, U2, Wr1, Y1, Y4, Z1, Z2, Verb, Lock, RUnlock}
+use Rattle.lk_domain.proofs.Names.{Read, Try, TryRead, TryWrite, Unlock, WUnlock, Write, if-false}
+use Rattle.lk_domain.proofs.Names.{if-true, Begins, Calls, Running, StandsOn, acting, begin, is_on}
+use Rattle.lk_domain.proofs.Names.{is_verb, Plan}
 
 -- an operation is itself
 verb_same : (v : Verb) → is_verb v v ≡ true

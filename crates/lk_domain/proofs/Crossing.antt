@@ -1,7 +1,7 @@
 -- A domain may be seen by several threads at once. Its plan has a `Snapshot`, so that this is not found
 -- without a hint.
-use denote.Param.Send.{IsSync, sendable}
 use Rattle.std.proofs.Crossing.{crosses}
+use denote.Param.Send.{IsSync, sendable}
 use Rattle.std.proofs.option.Option.TheSendSync as option
 use Rattle.std.proofs.alloc.Global.TheSendSync as global
 use Rattle.atomic_table.proofs.owned.Table.TheSendSync as table

@@ -1,43 +1,25 @@
 -- A turn at a free lock, by a processor in no call: what its operations ask, and what they leave.
-use Rattle.std.proofs.Common.{◌≡◌, inr, ℕ, ◌<◌, ◌≤◌, List, [], ◌∷◌, length, Bool, true, false, Some, refl, sym, ap, ◌∙◌, subst, arith}
-use Rattle.std.specs.Prelude.{not}
-use Rattle.atomic_table.specs.Table.{Me}
-use Rattle.lk_names.specs.declared.holder.Manner.{Manner}
-use Rattle.lk_names.specs.declared.holder.Manner.TheVariants.{Reads, Spins, Writes}
-use Rattle.lk_rows.specs.Moves.{first_place}
-use Rattle.lk_rows.specs.Programs.{kind_of}
-use Rattle.lk_rows.specs.declared.parts.Pc.{Pc}
-use Rattle.lk_rows.specs.declared.setup.Verb.{Verb}
-use Rattle.lk_rows.specs.declared.setup.Verb.TheVariants.{Lock, Read, RUnlock, Unlock, Write, WUnlock}
-use Rattle.lk_law.specs.Leads.{Met, Shared, Word}
-use Rattle.lk_domain.specs.Calls.{Calls, Hold, Running, acting, are_calls, free_of, hold_in, holds_in, lock_name, moved_to, slow_in, slows, waits_in, way_in}
-use Rattle.lk_domain.specs.Keeps.{Slot}
-use Rattle.lk_domain.specs.Marked.{AreOrdered, IsNoted, Marks, Steps}
-use Rattle.lk_domain.specs.Plans.{kind_at, locks_of}
-use Rattle.lk_domain.specs.Plays.{Acts, ActsIn, carried_of, made as after_row}
-use Rattle.lk_domain.specs.Rows.{is_take, takes_by}
-use Rattle.lk_domain.specs.RwPlays.{ActsFor}
-use Rattle.lk_domain.specs.RwRows.{joins_at, joins_by, leaves_by, quits_by, seizes_at, seizes_by}
-use Rattle.lk_domain.specs.Seats.{IsOf, calls_of}
-use Rattle.lk_domain.specs.Turns.{FreesIn, HasFreedIn, MayFreeIn, MayTakeIn, TakesIn, home_in, is_let, verb_in}
-use Rattle.lk_domain.specs.Values.{IsHomeAt, out_in}
-use Rattle.lk_domain.specs.Views.{own_number}
-use Rattle.lk_domain.specs.Who.{Who}
-use Rattle.lk_domain.specs.declared.cpu.Cpu.{Cpu}
-use Rattle.lk_domain.specs.declared.domain.Domain.{Domain}
-use Rattle.lk_domain.specs.declared.notes.Notes.{Notes}
-use Rattle.lk_domain.specs.declared.plan.Plan.{Plan}
-use Rattle.lk_domain.specs.declared.view.View.{View}
+use Rattle.std.proofs.Common.{◌≡◌, inr, ℕ, ◌<◌, ◌≤◌, List, [], ◌∷◌, length, Bool, true, false, Some}
+use Rattle.std.proofs.Common.{refl, sym, ap, ◌∙◌, subst, arith, not}
+use Rattle.lk_domain.proofs.Names.{Me, Manner, Reads, Spins, Writes, first_place, kind_of, Pc, Verb}
+use Rattle.lk_domain.proofs.Names.{Lock, RUnlock, Read, Unlock, WUnlock, Write, Met, Shared, Word}
+use Rattle.lk_domain.proofs.Names.{Calls, Hold, Running, acting, are_calls, free_of, hold_in}
+use Rattle.lk_domain.proofs.Names.{holds_in, lock_name, moved_to, slow_in, slows, waits_in, way_in}
+use Rattle.lk_domain.proofs.Names.{Slot, IsNoted, Marks, Steps, kind_at, locks_of, Acts, ActsIn}
+use Rattle.lk_domain.proofs.Names.{carried_of, is_take, takes_by, ActsFor, joins_at, joins_by}
+use Rattle.lk_domain.proofs.Names.{leaves_by, quits_by, seizes_at, seizes_by, IsHomeAt, out_in}
+use Rattle.lk_domain.proofs.Names.{own_number, Who, Cpu, Domain, Notes, Plan, View}
 use Rattle.lk_domain.proofs.Holds.{dropped, found, held, mine, out_home, way}
-use Rattle.lk_domain.proofs.Seating.{apart_of, noted_of}
-use Rattle.lk_domain.proofs.Turned.{is_taking}
-use Rattle.lk_domain.proofs.Ways.{IsSeat, Took, F1_takes, R1_takes, Wr1_takes, acts_first, acts_release, frees}
-use Rattle.lk_domain.proofs.rows.Fresh.{turned_purse}
-use Rattle.lk_domain.proofs.rw.Released as released
-use Rattle.lk_domain.proofs.rw.Released.{reader, writer}
-use Rattle.lk_domain.proofs.rw.Stepped as shared
-use Rattle.lk_domain.proofs.seats.Homes.{alone_at, copy_held}
+use Rattle.lk_domain.proofs.{Seating.{apart_of, noted_of}, Turned.is_taking}
+use Rattle.lk_domain.proofs.Ways.{IsSeat, Took, F1_takes, R1_takes, Wr1_takes, acts_first}
+use Rattle.lk_domain.proofs.{Ways.{acts_release, frees}, rows.Fresh.turned_purse}
+use Rattle.lk_domain.proofs.{rw.Released.{reader, writer}, seats.Homes.{alone_at, copy_held}}
 use Rattle.lk_domain.proofs.seats.Places.{carried_same}
+use Rattle.lk_domain.specs.{Marked.AreOrdered, Plays.made as after_row, Seats.{IsOf, calls_of}}
+use Rattle.lk_domain.specs.Turns.{FreesIn, HasFreedIn, MayFreeIn, MayTakeIn, TakesIn, home_in}
+use Rattle.lk_domain.specs.Turns.{is_let, verb_in}
+use Rattle.lk_domain.proofs.rw.Released as released
+use Rattle.lk_domain.proofs.rw.Stepped as shared
 use Rattle.lk_domain.proofs.turns.Stepped as stepped
 
 -- what a row of a lock leaves of a seat

@@ -1,30 +1,13 @@
 -- What a release does to what its processor keeps.
-use Rattle.std.proofs.Common.{◌≡◌, ◌≢◌, inl, inr, ℕ, List, [], ◌∷◌, length, Bool, true, false, eqb, None}
-use Rattle.std.proofs.Common.{eq-eqb, refl, sym, ap, ◌∙◌, arith}
-use Rattle.std.proofs.lemmas.Bool.{cases_Bool}
-use Rattle.std.specs.Prelude.{if◌then◌else◌, ◌&&◌, not}
-use Rattle.atomic_table.specs.Table.{Me}
-use Rattle.lk_names.specs.Names.{same_lock}
-use Rattle.lk_names.specs.declared.names.Mode.{Mode}
-use Rattle.lk_names.specs.declared.names.Mode.TheVariants.{Virt, Native, Cna, Pv}
-use Rattle.lk_names.specs.declared.names.LockName.{LockName}
-use Rattle.lk_word.specs.declared.spin_word.Fields.{Fields}
-use Rattle.lk_rows.specs.declared.parts.Pc.TheVariants.{U1}
-use Rattle.lk_rows.specs.declared.setup.Verb.{Verb}
-use Rattle.lk_rows.specs.declared.setup.Verb.TheVariants.{Unlock}
+use Rattle.std.proofs.Common.{◌≡◌, ◌≢◌, inl, inr, ℕ, List, [], ◌∷◌, length, Bool, true, false, eqb}
+use Rattle.std.proofs.Common.{None, eq-eqb, refl, sym, ap, ◌∙◌, arith, if◌then◌else◌, ◌&&◌, not}
+use Rattle.lk_domain.proofs.Names.{cases_Bool, Me, Fields, same_lock, LockName, Mode, Cna, Native}
+use Rattle.lk_domain.proofs.Names.{Pv, Virt, U1, Verb, Unlock, if-false, if-true, if_cases}
+use Rattle.lk_domain.proofs.Names.{not-true, same_lock-true, halts, Word, Calls, Hold, Outlook}
+use Rattle.lk_domain.proofs.Names.{Running, are_calls, begin, free_of, holds_in, is_on, is_verb}
+use Rattle.lk_domain.proofs.Names.{lock_name, mark, moved_to, row_of, row_on, sight_of, terms_of}
+use Rattle.lk_domain.proofs.Names.{Slot, MadeBy, own_number, Plan, View}
 use Rattle.lk_rows.specs.Programs.{is_release as is_unlocking}
-use Rattle.lk_law.specs.Agree.{halts}
-use Rattle.lk_law.specs.Leads.{Word}
-use Rattle.lk_law.proofs.common.Puts.{if_cases, if-true, if-false, not-true}
-use Rattle.lk_law.proofs.common.Sames.{same_lock-true}
-use Rattle.lk_domain.specs.Calls.{Outlook}
-use Rattle.lk_domain.specs.Calls.{terms_of, mark, Running, Hold, Calls, are_calls, is_on, is_verb, begin, row_of, row_on, sight_of}
-use Rattle.lk_domain.specs.declared.plan.Plan.{Plan}
-use Rattle.lk_domain.specs.Calls.{moved_to, free_of, lock_name, holds_in}
-use Rattle.lk_domain.specs.Keeps.{Slot}
-use Rattle.lk_domain.specs.Plays.{MadeBy}
-use Rattle.lk_domain.specs.Views.{own_number}
-use Rattle.lk_domain.specs.declared.view.View.{View}
 use Rattle.lk_domain.proofs.Stacks.{and_parts}
 
 -- who gives a lock back that was taken by whichever context holds nothing of it

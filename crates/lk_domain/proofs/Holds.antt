@@ -1,13 +1,9 @@
 -- The newest hold is that of a lock, and the lock is freed.
-use Rattle.std.proofs.Common.{◌≡◌, ℕ, List, [], ◌∷◌, Bool, true, false, Some, eqb, eq-eqb, refl, sym, ap, ◌∙◌, inl, inr}
-use Rattle.std.proofs.lemmas.Bool.{cases_Bool}
-use Rattle.std.specs.Prelude.{◌&&◌, ◌||◌}
-use Rattle.lk_names.specs.Names.{same_lock}
-use Rattle.lk_names.specs.declared.holder.Manner.{Manner}
-use Rattle.lk_law.proofs.common.Puts.{if-true, if-false}
-use Rattle.lk_law.proofs.common.Sames.{same_lock-self}
-use Rattle.lk_domain.specs.Calls.{Hold, holds_in, hold_in, lock_name, moved_to, free_of, way_in}
-use Rattle.lk_domain.specs.Values.{marked_out, out_in}
+use Rattle.std.proofs.Common.{◌≡◌, ℕ, List, [], ◌∷◌, Bool, true, false, Some, eqb, eq-eqb, refl}
+use Rattle.std.proofs.Common.{sym, ap, ◌∙◌, inl, inr, ◌&&◌, ◌||◌}
+use Rattle.lk_domain.proofs.Names.{cases_Bool, same_lock, Manner, if-false, if-true, same_lock-self}
+use Rattle.lk_domain.proofs.Names.{Hold, free_of, hold_in, holds_in, lock_name, moved_to, way_in}
+use Rattle.lk_domain.proofs.Names.{marked_out, out_in}
 
 -- the newest hold is that of the lock
 

@@ -1,3 +1,4 @@
+pub mod Names
 pub mod Stacks
 pub mod Manners
 pub mod rows

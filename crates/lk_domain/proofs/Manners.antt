@@ -1,23 +1,15 @@
 -- How a processor holds its locks: each in a manner of its kind, and each but wait locks once.
-use Rattle.std.proofs.Common.{◌≡◌, ◌≢◌, ◌⊎◌, inl, inr, ℕ, ◌<◌, ◌≤◌, List, [], ◌∷◌, Option, Some, None}
-use Rattle.std.proofs.Common.{Bool, true, false, eqb, eq-eqb, eqb-true, ne_eqb, refl, sym, ap, ◌∙◌, subst, arith}
-use Rattle.std.proofs.lemmas.Bool.{cases_Bool}
-use Rattle.std.specs.Prelude.{if◌then◌else◌, ◌&&◌, not}
-use Rattle.lk_names.specs.Names.{same_lock}
-use Rattle.lk_names.specs.declared.holder.Manner.{Manner}
-use Rattle.lk_names.specs.declared.holder.Manner.TheVariants.{Spins, Reads, Writes}
-use Rattle.lk_names.specs.declared.names.Kind.{Kind}
-use Rattle.lk_names.specs.declared.names.LockName.{LockName}
-use Rattle.lk_rows.specs.declared.parts.Frame.{Frame}
-use Rattle.lk_rows.specs.declared.parts.Pc.{Pc}
-use Rattle.lk_rows.specs.declared.setup.Verb.{Verb}
-use Rattle.lk_law.specs.SoundWorld.{is_rw_name}
-use Rattle.lk_law.proofs.common.Puts.{if-true, if-false, not-true}
-use Rattle.lk_law.proofs.common.Sames.{same_lock-self, same_lock-true}
-use Rattle.lk_domain.specs.Calls.{Hold, hold, held_in, way_in, holds_in, free_of, moved_to, lock_name, is_spun}
-use Rattle.lk_domain.specs.Calls.{Suits, AreHeld, AreFresh, Running, Mark, Grip, Unchanged, Takes, Frees}
-use Rattle.lk_domain.specs.Calls.{holds_after, frames_after, waits_in, is_seeking}
+use Rattle.std.proofs.Common.{◌≡◌, ◌≢◌, ◌⊎◌, inl, inr, ℕ, ◌<◌, ◌≤◌, List, [], ◌∷◌, Option, Some}
+use Rattle.std.proofs.Common.{None, Bool, true, false, eqb, eq-eqb, eqb-true, ne_eqb, refl, sym, ap}
+use Rattle.std.proofs.Common.{◌∙◌, subst, arith, if◌then◌else◌, ◌&&◌, not}
+use Rattle.lk_domain.proofs.Names.{cases_Bool, same_lock, Manner, Reads, Spins, Writes, Kind}
+use Rattle.lk_domain.proofs.Names.{LockName, Frame, Pc, Verb, if-false, if-true, not-true}
+use Rattle.lk_domain.proofs.Names.{same_lock-self, same_lock-true, is_rw_name, AreFresh, AreHeld}
+use Rattle.lk_domain.proofs.Names.{Frees, Grip, Hold, Mark, Running, Suits, Takes, Unchanged}
+use Rattle.lk_domain.proofs.Names.{frames_after, free_of, held_in, hold, holds_after, holds_in}
+use Rattle.lk_domain.proofs.Names.{is_seeking, lock_name, moved_to, waits_in, way_in}
 use Rattle.lk_domain.proofs.Stacks.{and_parts, moved_lock, held_by, unheld}
+use Rattle.lk_domain.specs.Calls.{is_spun}
 
 spun_is : (m : Manner) → is_spun m ≡ true → m ≡ Spins
 spun_is Spins h = refl

@@ -1,12 +1,10 @@
 -- What the number of a link that a step met says.
-use Rattle.std.proofs.Common.{◌≡◌, inl, inr, ℕ, ◌+◌, ◌-◌, ◌/◌, ◌%◌, ◌<◌, ◌≤◌, Option, IfSome, arith, Some, None, Bool, true, false, eq-eqb, ne_eqb, refl, sym, ap, ◌∙◌, eqb}
-use Rattle.std.proofs.lemmas.Bool.{cases_eq}
-use Rattle.lk_word.specs.declared.spin_word.NodeName.{NodeName}
-use Rattle.lk_domain.specs.Plans.{cpus_of}
-use Rattle.lk_domain.specs.Words.{IsNode, link_number, marked}
-use Rattle.lk_domain.specs.declared.plan.Plan.{Plan}
+use Rattle.std.proofs.Common.{◌≡◌, inl, inr, ℕ, ◌+◌, ◌-◌, ◌/◌, ◌%◌, ◌<◌, ◌≤◌, Option, IfSome, arith}
+use Rattle.std.proofs.Common.{Some, None, Bool, true, false, eq-eqb, ne_eqb, refl, sym, ap, ◌∙◌}
+use Rattle.std.proofs.Common.{eqb}
+use Rattle.lk_domain.proofs.Names.{cases_eq, NodeName, if-false, if-true, cpus_of, IsNode}
+use Rattle.lk_domain.proofs.Names.{link_number, marked, Plan}
 use Rattle.lk_domain.specs.declared.plan.TheConstants.{MOST_CPUS}
-use Rattle.lk_law.proofs.common.Puts.{if-true, if-false}
 
 -- a link but for its mark
 marked_rest : (b : Bool) (i : ℕ) → i < 4294967296 → marked b i % 4294967296 ≡ i

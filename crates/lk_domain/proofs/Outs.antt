@@ -1,19 +1,12 @@
 -- A row leaves the values out that its processor has out, with holds that are still there.
-use Rattle.std.proofs.Common.{◌≡◌, inl, inr, ℕ, List, [], ◌∷◌, Option, Some, None, Bool, true, false, refl, sym, ap, ◌∙◌}
-use Rattle.std.proofs.lemmas.Bool.{cases_Bool}
-use Rattle.std.specs.Prelude.{if◌then◌else◌, ◌&&◌, ◌||◌, ◌==◌}
-use Rattle.lk_names.specs.Names.{same_lock}
-use Rattle.lk_names.specs.declared.holder.Manner.{Manner}
-use Rattle.lk_names.specs.declared.names.LockName.{LockName}
-use Rattle.lk_names.specs.declared.names.Mode.{Mode}
-use Rattle.lk_rows.specs.declared.setup.Verb.{Verb}
-use Rattle.lk_rows.specs.declared.setup.Verb.TheVariants.{Unlock, RUnlock, WUnlock}
-use Rattle.lk_law.proofs.common.Puts.{if_cases, if-true, if-false}
-use Rattle.lk_law.proofs.common.Sames.{same_lock-true}
-use Rattle.lk_domain.specs.Calls.{Hold, Calls, Grip, Unchanged, Takes, Frees, holds_in, hold_in}
-use Rattle.lk_domain.specs.Calls.{free_of, moved_to, holds_after, acting, begin, is_on, lock_name}
-use Rattle.lk_domain.specs.Values.{IsOutWith, IsOutAt, IsReached, lock_of, out_in}
-use Rattle.lk_domain.specs.declared.plan.Plan.{Plan}
+use Rattle.std.proofs.Common.{◌≡◌, inl, inr, ℕ, List, [], ◌∷◌, Option, Some, None, Bool, true}
+use Rattle.std.proofs.Common.{false, refl, sym, ap, ◌∙◌, if◌then◌else◌, ◌&&◌, ◌||◌, ◌==◌}
+use Rattle.lk_domain.proofs.Names.{cases_Bool, same_lock, Manner, LockName, Mode, Verb, RUnlock}
+use Rattle.lk_domain.proofs.Names.{Unlock, WUnlock, if-false, if-true, if_cases, same_lock-true}
+use Rattle.lk_domain.proofs.Names.{Calls, Frees, Grip, Hold, Takes, Unchanged, acting, begin}
+use Rattle.lk_domain.proofs.Names.{free_of, hold_in, holds_after, holds_in, is_on, lock_name}
+use Rattle.lk_domain.proofs.Names.{moved_to, IsOutAt, IsOutWith, lock_of, out_in, Plan}
+use Rattle.lk_domain.specs.Values.{IsReached}
 
 -- a lock that is held in some way is held
 pub hold_held : (hs : List Hold) (l : ℕ) (x : Manner × Bool) → hold_in hs l ≡ Some x → holds_in hs l ≡ true

@@ -1,14 +1,7 @@
 -- A processor of a domain: its seat, as the steps at the ledger ask for it, and its notes.
 use Rattle.std.proofs.Common.{◌≡◌, ℕ, ◌<◌, true, false, sym, ap, ◌∙◌, subst}
-use Rattle.lk_law.specs.Agree.{halts}
-use Rattle.lk_domain.specs.Calls.{are_calls}
-use Rattle.lk_domain.specs.Marked.{IsNoted}
-use Rattle.lk_domain.specs.Plans.{locks_of}
-use Rattle.lk_domain.specs.Seated.{IsTableOf, IsSeatOf}
-use Rattle.lk_domain.specs.Seats.{IsIn, IsOf}
-use Rattle.lk_domain.specs.declared.cpu.Cpu.{Cpu}
-use Rattle.lk_domain.specs.declared.domain.Domain.{Domain}
-use Rattle.lk_domain.specs.declared.plan.Plan.{Plan}
+use Rattle.lk_domain.proofs.Names.{halts, are_calls, IsNoted, locks_of, Cpu, Domain, Plan}
+use Rattle.lk_domain.specs.{Seated.{IsTableOf, IsSeatOf}, Seats.{IsIn, IsOf}}
 
 abbrev pub table_of : (d : Domain) → IsTableOf d.plan d.table.shared.table_id d.table.shared.key
 table_of d = record { lawful = d.lawful; words = d.words; slots = d.slots; key_is = d.key }

@@ -1,16 +1,11 @@
 -- What is read of a processor's calls.
-use Rattle.std.proofs.Common.{◌≡◌, ◌≢◌, inl, inr, ℕ, ◌≤◌, List, [], ◌∷◌}
-use Rattle.std.proofs.Common.{length, Option, Some, None, Bool, true, false, eqb, eq-eqb, eqb-true}
-use Rattle.std.proofs.Common.{ne_eqb, refl, sym, ap, ◌∙◌, subst, arith}
-use Rattle.std.proofs.lemmas.Bool.{cases_Bool}
-use Rattle.std.specs.Prelude.{if◌then◌else◌, ◌&&◌}
-use Rattle.lk_names.specs.Names.{same_lock}
-use Rattle.lk_names.specs.declared.holder.Manner.{Manner}
-use Rattle.lk_names.specs.declared.names.LockName.{LockName}
-use Rattle.lk_law.proofs.common.Puts.{if-true, if-false, not-true, same_lock-else}
-use Rattle.lk_law.proofs.common.Sames.{same_lock-self, same_lock-true}
-use Rattle.lk_domain.specs.Calls.{Running, Hold, Stacked, frame_in, held_in, holds_in, free_of, moved_to}
-use Rattle.lk_domain.specs.Calls.{lock_name}
+use Rattle.std.proofs.Common.{◌≡◌, ◌≢◌, inl, inr, ℕ, ◌≤◌, List, [], ◌∷◌, length, Option, Some, None}
+use Rattle.std.proofs.Common.{Bool, true, false, eqb, eq-eqb, eqb-true, ne_eqb, refl, sym, ap, ◌∙◌}
+use Rattle.std.proofs.Common.{subst, arith, if◌then◌else◌, ◌&&◌}
+use Rattle.lk_domain.proofs.Names.{cases_Bool, same_lock, Manner, LockName, if-false, if-true}
+use Rattle.lk_domain.proofs.Names.{not-true, same_lock-else, same_lock-self, same_lock-true, Hold}
+use Rattle.lk_domain.proofs.Names.{Running, Stacked, frame_in, free_of, held_in, holds_in}
+use Rattle.lk_domain.proofs.Names.{lock_name, moved_to}
 
 -- frames
 

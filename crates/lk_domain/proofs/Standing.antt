@@ -1,26 +1,19 @@
 -- A call from row to row, and from stage to stage.
 use Rattle.std.proofs.Common.{◌≡◌, ◌≤◌, ℕ, ◌+◌, ◌<◌, List, [], ◌∷◌, ◌++◌, length, Some, None, Bool}
-use Rattle.std.proofs.Common.{true, false, eqb, refl, sym, ap, ◌∙◌, arith}
-use Rattle.std.specs.Prelude.{if◌then◌else◌, ◌&&◌}
-use Rattle.lk_names.specs.declared.holder.Manner.{Manner}
-use Rattle.lk_names.specs.declared.holder.Manner.TheVariants.{Spins}
-use Rattle.lk_names.specs.declared.names.LockName.{LockName}
-use Rattle.lk_names.specs.declared.names.Mode.{Mode}
-use Rattle.lk_rows.specs.Moves.{first_place, wait_name}
-use Rattle.lk_rows.specs.declared.parts.Frame.{Frame}
-use Rattle.lk_rows.specs.declared.parts.Pc.{Pc}
-use Rattle.lk_rows.specs.declared.setup.Verb.{Verb}
-use Rattle.lk_rows.specs.declared.setup.Verb.TheVariants.{Lock, Try, Read, TryRead, Write, TryWrite}
-use Rattle.lk_rows.specs.TopRow.{target}
-use Rattle.lk_law.specs.Leads.{Met, held_lock}
+use Rattle.std.proofs.Common.{true, false, eqb, refl, sym, ap, ◌∙◌, arith, if◌then◌else◌, ◌&&◌}
+use Rattle.lk_domain.proofs.Names.{Manner, Spins, LockName, Mode, first_place, wait_name, target}
+use Rattle.lk_domain.proofs.Names.{Frame, Pc, Verb, Lock, Read, Try, TryRead, TryWrite, Write, Met}
+use Rattle.lk_domain.proofs.Names.{held_lock, Calls, Grip, Hold, Mark, MayBegin, Outlook, Running}
+use Rattle.lk_domain.proofs.Names.{StandsOn, Takes, Unchanged, acting, after, begin, begun, course}
+use Rattle.lk_domain.proofs.Names.{frames_after, held_in, hold, holds_after, holds_in, is_on}
+use Rattle.lk_domain.proofs.Names.{is_verb, lock_name, mark, read_at, row_at, row_of, row_on}
+use Rattle.lk_domain.proofs.Names.{running, sight_of, waits_in}
 use Rattle.lk_law.specs.Sound.{after_wait, takes_wait}
-use Rattle.lk_domain.specs.Calls.{Outlook, sight_of, read_at, Terms, Mark, mark, Running, running, Hold, hold, Calls, StandsOn, begin, begun}
-use Rattle.lk_domain.specs.Calls.{lock_name, row_of, row_on, row_at, held_in, acting, is_on, is_verb, MayBegin, holds_in, waits_in}
-use Rattle.lk_domain.specs.Calls.{after, frames_after, last_after, holds_after, taken_after, course, Grip, Unchanged, Takes}
-use Rattle.lk_domain.specs.Paths.{next_frame, row_grip, still, onward, PathTo, Path, HasTaken, HasMissed, AreKept, Any}
+use Rattle.lk_domain.proofs.{Turned.is_taking, rows.Went.led_ctx}
+use Rattle.lk_domain.specs.Calls.{Terms, last_after, taken_after}
+use Rattle.lk_domain.specs.Paths.{next_frame, row_grip, still, onward, PathTo, Path, HasTaken}
+use Rattle.lk_domain.specs.Paths.{HasMissed, AreKept, Any}
 use Rattle.lk_domain.specs.Standing.{Stage, Outside, Inside, Entered, HoldsAt, locks_at, IsOn, IsAt}
-use Rattle.lk_domain.proofs.Turned.{is_taking}
-use Rattle.lk_domain.proofs.rows.Went.{led_ctx}
 
 -- a lock that is no wait lock, and a call that takes none
 pub no_wait : {A : Type 0} → false ≡ true → A

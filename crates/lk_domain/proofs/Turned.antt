@@ -1,38 +1,21 @@
 -- What a step of a call does to what its processor keeps.
-use Rattle.std.proofs.Common.{◌≡◌, ◌≢◌, ◌⊎◌, inl, inr, ℕ, suc, ◌+◌, ◌<◌, ◌≤◌, List, [], ◌∷◌, ◌++◌, length}
-use Rattle.std.proofs.Common.{Option, Some, None, Bool, true, false, eqb, eq-eqb, ne_eqb, refl}
-use Rattle.std.proofs.Common.{sym, ap, ◌∙◌, subst, arith, ◌||◌}
-use Rattle.std.proofs.lemmas.Bool.{cases_Bool}
-use Rattle.std.specs.Prelude.{if◌then◌else◌, ◌&&◌, not}
-use Rattle.lk_names.specs.Names.{same_lock}
-use Rattle.lk_names.specs.declared.holder.Manner.{Manner}
-use Rattle.lk_names.specs.declared.holder.Manner.TheVariants.{Spins}
-use Rattle.lk_names.specs.declared.names.Mode.{Mode}
-use Rattle.lk_names.specs.declared.names.LockName.{LockName}
-use Rattle.lk_rows.specs.declared.parts.Frame.{Frame}
-use Rattle.lk_rows.specs.declared.parts.Pc.{Pc}
-use Rattle.lk_rows.specs.declared.parts.Pc.TheVariants.{F1, T1, R1, Y1, Wr1, Y4}
-use Rattle.lk_rows.specs.declared.setup.Verb.{Verb}
-use Rattle.lk_rows.specs.declared.setup.Verb.TheVariants.{Lock, Try, Read, TryRead}
-use Rattle.lk_rows.specs.declared.setup.Verb.TheVariants.{Write, TryWrite}
+use Rattle.std.proofs.Common.{◌≡◌, ◌≢◌, ◌⊎◌, inl, inr, ℕ, suc, ◌+◌, ◌<◌, ◌≤◌, List, [], ◌∷◌, ◌++◌}
+use Rattle.std.proofs.Common.{length, Option, Some, None, Bool, true, false, eqb, eq-eqb, ne_eqb}
+use Rattle.std.proofs.Common.{refl, sym, ap, ◌∙◌, subst, arith, ◌||◌, if◌then◌else◌, ◌&&◌, not}
+use Rattle.lk_domain.proofs.Names.{cases_Bool, same_lock, Manner, Spins, LockName, Mode, target}
+use Rattle.lk_domain.proofs.Names.{Frame, Pc, F1, R1, T1, Wr1, Y1, Y4, Verb, Lock, Read, Try}
+use Rattle.lk_domain.proofs.Names.{TryRead, TryWrite, Write, if-false, if-true, if_cases, not-true}
+use Rattle.lk_domain.proofs.Names.{same_lock-self, same_lock-true, is_slow, Course, Met, held_lock}
+use Rattle.lk_domain.proofs.Names.{led, Begins, Calls, Frees, Grip, Hold, Mark, MayBegin, Running}
+use Rattle.lk_domain.proofs.Names.{StandsOn, Takes, Unchanged, acting, after, are_calls, begin}
+use Rattle.lk_domain.proofs.Names.{begun, course, frames_after, free_of, grip_of, hold, holds_after}
+use Rattle.lk_domain.proofs.Names.{holds_in, is_on, is_verb, lock_name, mark, read_at, row_at}
+use Rattle.lk_domain.proofs.Names.{row_of, row_on, running, sight_of, slow_in, slows, terms_of}
+use Rattle.lk_domain.proofs.Names.{waits_in, Steps, Plan}
 use Rattle.lk_rows.specs.Programs.{is_release as is_unlocking}
-use Rattle.lk_rows.specs.TopRow.{target}
-use Rattle.lk_law.specs.Families.{is_slow}
-use Rattle.lk_law.specs.Leads.{Met, Course, held_lock}
-use Rattle.lk_law.specs.Steps.{led}
-use Rattle.lk_law.proofs.common.Puts.{if_cases, if-true, if-false, not-true}
-use Rattle.lk_law.proofs.common.Sames.{same_lock-self, same_lock-true}
-use Rattle.lk_domain.specs.Calls.{terms_of, Mark, mark, Running, running, Hold, hold, Calls, StandsOn}
-use Rattle.lk_domain.specs.Calls.{Grip, Unchanged, Takes, Frees, free_of}
-use Rattle.lk_domain.specs.Calls.{grip_of, course, after, frames_after, row_of, read_at, sight_of}
-use Rattle.lk_domain.specs.Calls.{holds_after}
-use Rattle.lk_domain.specs.Calls.{row_on, row_at, acting, begun, begin, is_on, is_verb, Begins, MayBegin}
-use Rattle.lk_domain.specs.Calls.{slows, waits_in, slow_in, holds_in, are_calls, lock_name}
-use Rattle.lk_domain.specs.Marked.{Behind, nobody, one, Steps}
-use Rattle.lk_domain.specs.declared.plan.Plan.{Plan}
+use Rattle.lk_domain.proofs.{rows.Grips.{IsOwn, own_lock}, rows.Went.led_index}
 use Rattle.lk_domain.proofs.turns.Courses.{Comes, Outcome, grip_if}
-use Rattle.lk_domain.proofs.rows.Grips.{IsOwn, own_lock}
-use Rattle.lk_domain.proofs.rows.Went.{led_index}
+use Rattle.lk_domain.specs.Marked.{Behind, nobody, one}
 
 -- Booleans
 and_parts : (a b : Bool) → (a && b) ≡ true → (a ≡ true) × (b ≡ true)

@@ -1,55 +1,27 @@
 -- What the rows of `virt` do to a call, by what they meet.
-use Rattle.std.proofs.Common.{◌≡◌, ℕ, ◌+◌, List, [], ◌∷◌, ◌++◌, length, Some, None, Bool, true, false}
-use Rattle.std.proofs.Common.{eqb, refl, sym, ap, ◌∙◌, subst, arith}
-use Rattle.std.specs.Prelude.{if◌then◌else◌}
-use Rattle.atomic_table.specs.Table.{Me}
-use Rattle.lk_names.specs.declared.holder.Manner.{Manner}
-use Rattle.lk_names.specs.declared.holder.Manner.TheVariants.{Reads, Spins, Writes}
-use Rattle.lk_names.specs.declared.names.LockName.{LockName}
-use Rattle.lk_names.specs.declared.names.Mode.{Mode}
-use Rattle.lk_names.specs.declared.names.Mode.TheVariants.{Virt, Native, Cna, Pv}
-use Rattle.lk_word.specs.declared.spin_word.Fields.{Fields}
-use Rattle.lk_word.specs.declared.spin_word.Layout.{Layout}
+use Rattle.std.proofs.Common.{◌≡◌, ℕ, ◌+◌, List, [], ◌∷◌, ◌++◌, length, Some, None, Bool, true}
+use Rattle.std.proofs.Common.{false, eqb, refl, sym, ap, ◌∙◌, subst, arith, if◌then◌else◌}
+use Rattle.lk_domain.proofs.Names.{Me, RwFields, Fields, Layout, Manner, Reads, Spins, Writes, Spin}
+use Rattle.lk_domain.proofs.Names.{LockName, Mode, Cna, Native, Pv, Virt, first_place, rw_name}
+use Rattle.lk_domain.proofs.Names.{wait_name, kind_of, target, Frame, Pc, F1, R1, T1, T2, U1, Wr1}
+use Rattle.lk_domain.proofs.Names.{Verb, Lock, Read, Try, Unlock, Write, is_empty, is_open, is_free}
+use Rattle.lk_domain.proofs.Names.{halts, Met, Shared, Word, held_lock, IsThen, Calls, Frees}
+use Rattle.lk_domain.proofs.Names.{Outlook, Running, Takes, Unchanged, acting, are_calls, begin}
+use Rattle.lk_domain.proofs.Names.{begun, held_in, holds_in, lock_name, mark, read_at, row_of}
+use Rattle.lk_domain.proofs.Names.{running, sight_of, terms_of, waits_in, Slot, turned, kind_at}
+use Rattle.lk_domain.proofs.Names.{Acts, MadeBy, turned_of, frees_by, SharedBy, own_number, Plan}
+use Rattle.lk_domain.proofs.Names.{View}
 use Rattle.lk_word.specs.SpinWord.{packed}
-use Rattle.lk_word.specs.declared.rw_word.RwFields.{RwFields}
-use Rattle.lk_rows.specs.declared.parts.Frame.{Frame}
-use Rattle.lk_rows.specs.declared.parts.Pc.{Pc}
-use Rattle.lk_rows.specs.declared.parts.Pc.TheVariants.{F1, R1, T1, T2, U1, Wr1}
-use Rattle.lk_rows.specs.declared.setup.Verb.{Verb}
-use Rattle.lk_rows.specs.declared.setup.Verb.TheVariants.{Lock, Read, Try, Unlock, Write}
-use Rattle.lk_rows.specs.Moves.{first_place, rw_name, wait_name}
-use Rattle.lk_rows.specs.Programs.{kind_of}
-use Rattle.lk_names.specs.declared.names.Kind.TheVariants.{Spin}
-use Rattle.lk_rows.specs.rows.Rw.{is_empty, is_open}
-use Rattle.lk_rows.specs.rows.Spin.{is_free}
-use Rattle.lk_rows.specs.TopRow.{target}
-use Rattle.lk_law.specs.Agree.{halts}
-use Rattle.lk_law.specs.Leads.{Met, Shared, Word, held_lock}
 use Rattle.lk_law.specs.Sound.{takes_wait}
-use Rattle.lk_domain.specs.Calls.{terms_of, mark, read_at, Running, running, Calls, StandsAt, acting, begin, lock_name}
-use Rattle.lk_domain.specs.Calls.{Outlook}
-use Rattle.lk_law.specs.Premises.{IsThen}
-use Rattle.lk_domain.specs.Calls.{sight_of, row_of, Unchanged, Takes, Frees, held_in, holds_in, waits_in, begun, are_calls}
-use Rattle.lk_domain.specs.Keeps.{Slot}
-use Rattle.lk_domain.specs.Ledgers.{turned}
-use Rattle.lk_domain.specs.Plans.{kind_at}
+use Rattle.lk_domain.proofs.{Acting.{acting_is, acts_on, begins_on}, Freed.not_on, Turned.is_taking}
+use Rattle.lk_domain.proofs.{rw.Numbers.{empty_test, open_test}, words.Numbers.free_test}
+use Rattle.lk_domain.specs.Calls.{StandsAt}
 use Rattle.lk_domain.specs.Paths.{next_frame, row_grip, HasTaken, HasMissed, HasFreed, Any}
-use Rattle.lk_domain.specs.Plays.{Acts, MadeBy, made as after_row, turned_on, turned_of, turned_at}
-use Rattle.lk_domain.specs.Rows.{frees_by}
-use Rattle.lk_domain.specs.RwPlays.{SharedBy}
-use Rattle.lk_domain.specs.RwRows.{lets_in}
+use Rattle.lk_domain.specs.{Plays.{made as after_row, turned_on, turned_at}, RwRows.lets_in}
 use Rattle.lk_domain.specs.Standing.{IsAt}
-use Rattle.lk_domain.specs.Views.{own_number}
-use Rattle.lk_domain.specs.declared.plan.Plan.{Plan}
-use Rattle.lk_domain.specs.declared.view.View.{View}
-use Rattle.lk_domain.proofs.Acting.{acting_is, acts_on, begins_on}
 use Rattle.lk_domain.proofs.turns.Courses as rows
 use Rattle.lk_domain.proofs.Freed as freed
-use Rattle.lk_domain.proofs.Freed.{not_on}
-use Rattle.lk_domain.proofs.rw.Numbers.{empty_test, open_test}
-use Rattle.lk_domain.proofs.words.Numbers.{free_test}
 use Rattle.lk_domain.proofs.Standing as path
-use Rattle.lk_domain.proofs.Turned.{is_taking}
 
 -- the seat of a processor of a plan
 pub record IsSeat (k : Plan) (p : ℕ) (v : View) : Type 0 where

@@ -1,36 +1,21 @@
 -- Who holds lock 0 alone is one seat; and a step on a word of the ledger leaves the machine part.
-use Rattle.std.proofs.Common.{◌≡◌, ◌≢◌, ◌⊎◌, inl, inr, ⊎_elim, ℕ, ◌<◌, ◌≤◌, List, set, get_or, Option, Some}
-use Rattle.std.proofs.Common.{None, true, false, refl, sym, ap, ◌∙◌, subst, arith, get_or-set_other}
-use mathlib.Core.Option.{Option as Maybe, some, some-injective}
-use lib.ListN.{get_elem?}
-use Rattle.atomic_table.specs.Table.{State}
-use Rattle.lk_names.specs.declared.names.Waiter.{Waiter}
-use Rattle.lk_names.specs.History.{LockHistory}
-use Rattle.lk_names.specs.declared.holder.Manner.{Manner}
-use Rattle.lk_names.specs.declared.holder.Manner.TheVariants.{Spins, Reads, Writes}
-use Rattle.lk_names.specs.declared.names.Kind.{Kind}
-use Rattle.lk_names.specs.declared.names.Kind.TheVariants.{Spin, Rw}
-use Rattle.lk_names.specs.declared.names.LockName.{LockName}
-use Rattle.lk_law.specs.SoundWorld.{IsSoundWorld, is_rw, is_rw_name}
-use Rattle.lk_law.specs.World.{World}
+use Rattle.std.proofs.Common.{◌≡◌, ◌≢◌, ◌⊎◌, inl, inr, ⊎_elim, ℕ, ◌<◌, ◌≤◌, List, set, get_or}
+use Rattle.std.proofs.Common.{Option, Some, None, true, false, refl, sym, ap, ◌∙◌, subst, arith}
+use Rattle.std.proofs.Common.{get_or-set_other}
+use Rattle.lk_domain.proofs.Names.{State, get_elem?, some, some-injective, LockHistory, Manner}
+use Rattle.lk_domain.proofs.Names.{Reads, Spins, Writes, Kind, Rw, Spin, LockName, Waiter}
+use Rattle.lk_domain.proofs.Names.{IsSoundWorld, is_rw, is_rw_name, World, Calls, lock_name}
+use Rattle.lk_domain.proofs.Names.{no_calls, AtHome, Away, Keeps, Slot, any_count, holds_first}
+use Rattle.lk_domain.proofs.Names.{sole_count, Out, Runs, SeatFits, Seeks, waiter, Stand}
+use Rattle.lk_domain.proofs.Names.{IsNumbered, Who, IsPlace, Place, place_at, Plan, View}
+use mathlib.Core.Option.{Option as Maybe}
 use Rattle.lk_law.proofs.running.Holds.{holder_is_one}
-use Rattle.lk_domain.specs.Calls.{Calls, no_calls, lock_name}
-use Rattle.lk_domain.specs.Keeps.{Slot, any_count, sole_count, is_sole, holds_first, Keeps, AtHome, Away}
-use Rattle.lk_domain.specs.Ledgers.{Out}
-use Rattle.lk_domain.specs.Runs.{Runs, SeatFits, waiter, Seeks}
-use Rattle.lk_domain.specs.Stand.{Stand}
-use Rattle.lk_domain.specs.Views.{IsNumbered}
-use Rattle.lk_domain.specs.Who.{Who}
-use Rattle.lk_domain.specs.Words.{Place, place_at, IsPlace}
-use Rattle.lk_domain.specs.declared.plan.Plan.{Plan}
-use Rattle.lk_domain.specs.declared.view.View.{View}
+use Rattle.lk_domain.proofs.{Manners.held_spun, Stacks.holder_of}
 use Rattle.lk_domain.proofs.journals.Held.{any_some, sole_le, sole_some}
+use Rattle.lk_domain.proofs.{rows.Kept.{SameWho, halting_same}, seats.Totals.apart}
 use Rattle.lk_domain.proofs.words.Written.{unwritten}
-use Rattle.lk_domain.proofs.Manners.{held_spun}
+use Rattle.lk_domain.specs.Keeps.{is_sole}
 use Rattle.lk_domain.proofs.rows.Kept as rule
-use Rattle.lk_domain.proofs.rows.Kept.{SameWho, halting_same}
-use Rattle.lk_domain.proofs.Stacks.{holder_of}
-use Rattle.lk_domain.proofs.seats.Totals.{apart}
 
 -- a seat with a lock has a number
 pub has_lock : (k : Plan) (s : State Slot View) (ok : Runs k s) (i : ℕ) (v : View)

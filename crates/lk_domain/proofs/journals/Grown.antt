@@ -1,23 +1,15 @@
 -- What the seats know stays true as the journal grows.
-use Rattle.std.proofs.Common.{◌≡◌, ◌≢◌, ℕ, ◌+◌, List, [], ◌∷◌, ◌++◌, map, length, take, drop, get_or}
-use Rattle.std.proofs.Common.{Option, Some, None, Bool, true, false, eqb, ne_eqb, refl, sym, ap, ◌∙◌, subst, arith, length-append}
+use Rattle.std.proofs.Common.{◌≡◌, ◌≢◌, ℕ, ◌+◌, List, [], ◌∷◌, ◌++◌, map, length, take, drop}
+use Rattle.std.proofs.Common.{get_or, Option, Some, None, Bool, true, false, eqb, ne_eqb, refl, sym}
+use Rattle.std.proofs.Common.{ap, ◌∙◌, subst, arith, length-append, if◌then◌else◌}
 use Rattle.std.proofs.lemmas.List.{take-append-le}
-use Rattle.std.specs.Prelude.{if◌then◌else◌}
-use mathlib.Core.Logic.{dite}
-use mathlib.Core.Option.{some}
-use native.Mathlib.Decide.{ℕ_discrete}
-use lib.ListN.{get_elem?}
-use Rattle.atomic_table.specs.Table.{State}
-use Rattle.lk_names.specs.declared.ledger.Entry.{Entry}
-use Rattle.lk_law.proofs.common.Puts.{if-false}
-use Rattle.lk_domain.specs.Places.{places, places_from, AllOf}
-use Rattle.lk_domain.specs.Keeps.{Slot, Knows, IsOpen, IsEnded, AreEnded, ArePast, IsSight, holds_first}
-use Rattle.lk_domain.specs.Ledgers.{Look, Past}
-use Rattle.lk_domain.specs.Runs.{Runs}
-use Rattle.lk_domain.specs.Views.{times, numbers, listed, number_of}
-use Rattle.lk_domain.specs.declared.plan.Plan.{Plan}
-use Rattle.lk_domain.specs.declared.view.View.{View}
-use Rattle.lk_domain.proofs.seats.Totals.{times-append, times-here, times-else, term_le, terms_le, counted, once_le}
+use Rattle.lk_domain.proofs.Names.{State, get_elem?, dite, some, ℕ_discrete, Entry, if-false}
+use Rattle.lk_domain.proofs.Names.{AreEnded, ArePast, IsOpen, Knows, Slot, holds_first, Look, Past}
+use Rattle.lk_domain.proofs.Names.{Runs, listed, numbers, times, Plan, View}
+use Rattle.lk_domain.proofs.seats.Totals.{times-append, times-here, times-else, term_le, terms_le}
+use Rattle.lk_domain.proofs.seats.Totals.{counted, once_le}
+use Rattle.lk_domain.specs.{Keeps.{IsEnded, IsSight}, Places.{places, places_from, AllOf}}
+use Rattle.lk_domain.specs.Views.{number_of}
 
 -- what holds of a beginning of the journal holds as it grows
 ended_grows : (k : Plan) (js es : List Entry) (x : Look) → IsEnded k js x → IsEnded k (js ++ es) x

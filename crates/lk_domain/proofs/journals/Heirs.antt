@@ -1,21 +1,14 @@
 -- One seat takes over all numbers.
-use Rattle.std.proofs.Common.{◌≡◌, inl, inr, ℕ, ◌+◌, ◌<◌, ◌≤◌, List, [], ◌∷◌, ◌++◌, map, length, get_or, take}
-use Rattle.std.proofs.Common.{Option, Some, None, sym, refl, ap, ◌∙◌, subst, length-append, ⊎_elim, arith}
+use Rattle.std.proofs.Common.{◌≡◌, inl, inr, ℕ, ◌+◌, ◌<◌, ◌≤◌, List, [], ◌∷◌, ◌++◌, map, length}
+use Rattle.std.proofs.Common.{get_or, take, Option, Some, None, sym, refl, ap, ◌∙◌, subst}
+use Rattle.std.proofs.Common.{length-append, ⊎_elim, arith}
 use Rattle.std.proofs.lemmas.List.{get_or-take, get_or_default, take-take, take_at}
-use mathlib.Core.Logic.{dite}
-use native.Mathlib.Decide.{ℕ_discrete}
-use Rattle.lk_names.specs.declared.ledger.Entry.{Entry}
-use Rattle.lk_domain.specs.Calls.{Calls}
-use Rattle.lk_domain.specs.Ends.{In, past_at, HasPast, IsEnd, IsFinalOf}
-use Rattle.lk_domain.specs.Keeps.{IsPast, ArePast}
-use Rattle.lk_domain.specs.Ledgers.{Ledger, Past}
-use Rattle.lk_domain.specs.Plans.{cpus_of}
-use Rattle.lk_domain.specs.Views.{view, newcomer, number_of, numbers, past_of, all_past, joined, with_more, times}
-use Rattle.lk_domain.specs.Who.{Who}
-use Rattle.lk_domain.specs.declared.plan.Plan.{Plan}
-use Rattle.lk_domain.specs.declared.view.View.{View}
-use Rattle.lk_domain.proofs.seats.Parted.{numbers_past}
-use Rattle.lk_domain.proofs.seats.Totals.{times-here}
+use Rattle.lk_domain.proofs.Names.{dite, ℕ_discrete, Entry, Calls, IsEnd, ArePast, Ledger, Past}
+use Rattle.lk_domain.proofs.Names.{cpus_of, all_past, numbers, past_of, times, view, Who, Plan}
+use Rattle.lk_domain.proofs.Names.{View}
+use Rattle.lk_domain.proofs.{seats.Parted.numbers_past, seats.Totals.times-here}
+use Rattle.lk_domain.specs.{Ends.{In, past_at, HasPast, IsFinalOf}, Keeps.IsPast}
+use Rattle.lk_domain.specs.Views.{newcomer, number_of, joined, with_more}
 
 in_left : {A : Type 0} (x : A) (xs ys : List A) → In x xs → In x (xs ++ ys)
 in_left x [] ys h = absurd h

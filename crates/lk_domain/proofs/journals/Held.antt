@@ -1,18 +1,12 @@
 -- How often lock 0 is held.
-use Rattle.std.proofs.Common.{◌≡◌, inl, inr, ℕ, ◌+◌, ◌≤◌, List, [], ◌∷◌, Option, Some, None, Bool, true, false, eqb, eq-eqb}
-use Rattle.std.proofs.Common.{refl, sym, ap, ◌∙◌, subst, arith}
-use Rattle.std.proofs.lemmas.Bool.{cases_Bool}
-use Rattle.std.specs.Prelude.{if◌then◌else◌, ◌&&◌, ◌==◌}
-use Rattle.lk_names.specs.Names.{same_lock}
-use Rattle.lk_names.specs.declared.holder.Manner.{Manner}
-use Rattle.lk_names.specs.declared.holder.Manner.TheVariants.{Reads}
-use Rattle.lk_names.specs.declared.names.Kind.{Kind}
-use Rattle.lk_names.specs.declared.names.LockName.{LockName}
-use Rattle.lk_law.proofs.common.Puts.{if-true, if-false}
-use Rattle.lk_law.proofs.common.Sames.{same_lock-true, same_lock-self}
-use Rattle.lk_domain.specs.Calls.{Hold, holds_in, held_in, free_of, moved_to, lock_name, AreHeld}
-use Rattle.lk_domain.specs.Keeps.{any_count, sole_count, is_sole}
+use Rattle.std.proofs.Common.{◌≡◌, inl, inr, ℕ, ◌+◌, ◌≤◌, List, [], ◌∷◌, Option, Some, None, Bool}
+use Rattle.std.proofs.Common.{true, false, eqb, eq-eqb, refl, sym, ap, ◌∙◌, subst, arith}
+use Rattle.std.proofs.Common.{if◌then◌else◌, ◌&&◌, ◌==◌}
+use Rattle.lk_domain.proofs.Names.{cases_Bool, same_lock, Manner, Reads, Kind, LockName, if-false}
+use Rattle.lk_domain.proofs.Names.{if-true, same_lock-self, same_lock-true, AreHeld, Hold, free_of}
+use Rattle.lk_domain.proofs.Names.{held_in, holds_in, lock_name, moved_to, any_count, sole_count}
 use Rattle.lk_domain.proofs.Stacks.{and_true, and_false, same_swap, unheld}
+use Rattle.lk_domain.specs.Keeps.{is_sole}
 
 -- a lock that is not held is held no times
 pub any_none : (hs : List Hold) → holds_in hs 0 ≡ false → any_count hs ≡ 0

@@ -1,32 +1,20 @@
 -- Where one seat has all numbers, and not the journal, the journal is at home.
-use Rattle.std.proofs.Common.{◌≡◌, ⊎_elim, ℕ, ◌+◌, ◌<◌, ◌≤◌, List, [], ◌∷◌, ◌++◌, length, get_or, take, drop, Option, Some, None}
-use Rattle.std.proofs.Common.{refl, sym, ap, ◌∙◌, subst, arith}
-use mathlib.Core.Logic.{dite}
-use mathlib.Core.Option.{some, some-injective, some-ne-none}
-use native.Mathlib.Decide.{ℕ_discrete}
-use lib.ListN.{get_elem?}
+use Rattle.std.proofs.Common.{◌≡◌, ⊎_elim, ℕ, ◌+◌, ◌<◌, ◌≤◌, List, [], ◌∷◌, ◌++◌, length, get_or}
+use Rattle.std.proofs.Common.{take, drop, Option, Some, None, refl, sym, ap, ◌∙◌, subst, arith}
 use Rattle.std.proofs.Common.{zero, suc}
-use Rattle.atomic_table.specs.Seated.{TableId}
-use Rattle.atomic_table.specs.Table.{State, Final, Seen}
-use Rattle.lk_values.specs.Guarded.{AreFit, AreIdle}
+use Rattle.lk_domain.proofs.Names.{TableId, State, get_elem?, dite, some, some-injective}
+use Rattle.lk_domain.proofs.Names.{some-ne-none, ℕ_discrete, Entry, Calls, Hold, no_calls, way_in}
+use Rattle.lk_domain.proofs.Names.{IsEnd, AtHome, Away, Keeps, Slot, balance, sole_count}
+use Rattle.lk_domain.proofs.Names.{accounts_of, cpus_of, Stand, Fits, FitsUnder, Key, Reaches}
+use Rattle.lk_domain.proofs.Names.{homes_of, lock_of, lodged, outs_of, numbers, times, balance_at}
+use Rattle.lk_domain.proofs.Names.{Journal, Plan, Entries, View}
+use Rattle.atomic_table.specs.Table.{Final, Seen}
 use Rattle.lk_values.proofs.Guards.{idle_is_home}
-use Rattle.lk_names.specs.declared.ledger.Entry.{Entry}
-use Rattle.lk_domain.specs.Calls.{Calls, Hold, no_calls, way_in}
-use Rattle.lk_domain.specs.Ends.{IsEnd}
-use Rattle.lk_domain.specs.Keeps.{Slot, Keeps, AtHome, Away, balance, sole_count}
-use Rattle.lk_domain.specs.Plans.{cpus_of, accounts_of}
-use Rattle.lk_domain.specs.Stand.{Stand}
-use Rattle.lk_domain.specs.Values.{Reaches, FitsUnder, Fits, Key, cell_of, homes_of, lock_of, lodged, outs_of}
-use Rattle.lk_domain.specs.Views.{numbers, times}
-use Rattle.lk_domain.specs.Words.{balance_at}
-use Rattle.lk_domain.specs.declared.ledger.journal.Journal.{Journal}
-use Rattle.lk_domain.specs.declared.plan.Plan.{Plan}
-use Rattle.lk_domain.specs.declared.slot.Stowed.TheVariants.{Entries}
-use Rattle.lk_domain.specs.declared.view.View.{View}
-use Rattle.lk_domain.proofs.journals.Alone.{out_is}
-use Rattle.lk_domain.proofs.journals.Purses.{past_known}
+use Rattle.lk_values.specs.Guarded.{AreFit, AreIdle}
+use Rattle.lk_domain.proofs.{journals.Alone.out_is, journals.Purses.past_known}
 use Rattle.lk_domain.proofs.seats.Exclusive.{hold_way, has_way}
 use Rattle.lk_domain.proofs.seats.Totals.{terms_le, counted, once_le, drawn}
+use Rattle.lk_domain.specs.Values.{cell_of}
 
 -- the journal of a table at its end, and its words
 pub record Ends (k : Plan) (v : View) (ws : List ℕ) (slot : Slot) : Type 0 where

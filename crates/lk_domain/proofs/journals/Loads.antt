@@ -1,37 +1,27 @@
 -- What the steps ask that read a word of the ledger.
-use Rattle.std.proofs.Common.{◌≡◌, ◌≢◌, inr, ⊎_elim, ℕ, ◌+◌, ◌-◌, ◌<◌, ◌≤◌, List, [], ◌∷◌, length, set}
-use Rattle.std.proofs.Common.{get_or, Option, Some, None, refl, sym, ap, ◌∙◌, subst, arith, length-set}
-use mathlib.Core.Option.{none, some}
-use lib.ListN.{get_elem?}
-use lib.Seq.{set-get_or}
-use Rattle.atomic_table.specs.Table.{State, Me, Step, keeps, takes, Allows}
-use Rattle.atomic_table.proofs.Lists.{at_set, set_here}
+use Rattle.std.proofs.Common.{◌≡◌, ◌≢◌, inr, ⊎_elim, ℕ, ◌+◌, ◌-◌, ◌<◌, ◌≤◌, List, [], ◌∷◌, length}
+use Rattle.std.proofs.Common.{set, get_or, Option, Some, None, refl, sym, ap, ◌∙◌, subst, arith}
+use Rattle.std.proofs.Common.{length-set}
+use Rattle.lk_domain.proofs.Names.{at_set, Allows, Me, State, Step, keeps, get_elem?, set-get_or}
+use Rattle.lk_domain.proofs.Names.{none, some, Entry, if_cases, AtHome, IsOpen, Keeps, Knows, Slot}
+use Rattle.lk_domain.proofs.Names.{balance, holds_first, undrawn, Ledger, Look, Out, no_ledger}
+use Rattle.lk_domain.proofs.Names.{IsRunningPlan, accounts_of, locks_of, Stand, IsNumbered, view}
+use Rattle.lk_domain.proofs.Names.{Who, balance_at, version_at, Plan, Entries, View}
+use Rattle.atomic_table.proofs.Lists.{set_here}
+use Rattle.atomic_table.specs.Table.{takes}
 use Rattle.lk_names.specs.Jobs.{after_job, given, taken, is_short, has_room}
-use Rattle.lk_names.specs.declared.ledger.Entry.{Entry}
-use Rattle.lk_names.specs.declared.ledger.Job.{Job}
+use Rattle.lk_names.specs.{Journal.{balances_after, Replays}, declared.ledger.Job.Job}
 use Rattle.lk_names.specs.declared.ledger.Job.TheVariants.{Move, Add, Sum, Get}
-use Rattle.lk_law.proofs.common.Puts.{if_cases}
-use Rattle.lk_names.specs.Journal.{balances_after, Replays}
-use Rattle.lk_domain.specs.Keeps.{Slot, Keeps, Knows, AtHome, IsOpen, balance, undrawn}
-use Rattle.lk_domain.specs.Keeps.{holds_first, alone_first}
-use Rattle.lk_domain.specs.Ledgers.{Ledger, Look, Out, no_ledger, loaded, sighted, taken_out, look_loads}
-use Rattle.lk_domain.specs.Ledgers.{look_sees, listed_look, manner_of, trail_of}
-use Rattle.lk_domain.specs.Plans.{IsRunningPlan, accounts_of, locks_of}
-use Rattle.lk_domain.specs.Plays.{Loads, LoadedBy, Sees, OneState, TakenBy, TakesJournal}
-use Rattle.lk_domain.specs.Stand.{Stand}
-use Rattle.lk_domain.specs.Views.{view, IsNumbered}
-use Rattle.lk_domain.specs.Who.{Who}
-use Rattle.lk_domain.specs.Words.{version_at, balance_at}
-use Rattle.lk_domain.specs.declared.plan.Plan.{Plan}
-use Rattle.lk_domain.specs.declared.slot.Stowed.TheVariants.{Entries}
-use Rattle.lk_domain.specs.declared.view.View.{View}
-use Rattle.lk_domain.proofs.journals.Alone as alone
-use Rattle.lk_domain.proofs.words.Written.{bare, behind}
 use Rattle.lk_domain.proofs.journals.Alone.{IsPage, paged, some_out, out_is}
 use Rattle.lk_domain.proofs.journals.Held.{any_once, sole_le}
-use Rattle.lk_domain.proofs.rows.Kept.{set_at}
 use Rattle.lk_domain.proofs.journals.Purses.{alters, ended_more, look_ends, first_slot}
-use Rattle.lk_domain.proofs.seats.Totals.{total-same, term_le}
+use Rattle.lk_domain.proofs.{rows.Kept.set_at, seats.Totals.{total-same, term_le}}
+use Rattle.lk_domain.proofs.words.Written.{bare, behind}
+use Rattle.lk_domain.specs.Keeps.{alone_first}
+use Rattle.lk_domain.specs.Ledgers.{loaded, sighted, taken_out, look_loads, look_sees, listed_look}
+use Rattle.lk_domain.specs.Ledgers.{manner_of, trail_of}
+use Rattle.lk_domain.specs.Plays.{Loads, LoadedBy, Sees, OneState, TakenBy, TakesJournal}
+use Rattle.lk_domain.proofs.journals.Alone as alone
 
 -- the words of the ledger
 

@@ -1,40 +1,26 @@
 -- What the seats know of the journal stays true, where it stays where it is.
-use Rattle.std.proofs.Common.{◌≡◌, ◌≢◌, ◌⊎◌, ⊎_elim, inl, inr, ℕ, ◌+◌, ◌<◌, ◌≤◌, List, [], ◌∷◌, ◌++◌}
-use Rattle.std.proofs.Common.{length, eqb, get_or, take, set, Option, Some, None, Bool, true, false, refl, sym}
-use Rattle.std.proofs.Common.{ap, ◌∙◌, subst, arith, length-set, get_or-set_other}
-use Rattle.std.proofs.lemmas.Bool.{cases_Bool}
-use Rattle.std.specs.Prelude.{if◌then◌else◌, ◌&&◌, not}
-use mathlib.Core.Logic.{dite}
-use native.Mathlib.Decide.{ℕ_discrete}
-use mathlib.Core.Option.{Option as Maybe, some, some-injective}
-use lib.ListN.{get_elem?}
-use Rattle.atomic_table.specs.Table.{State}
-use Rattle.atomic_table.proofs.Lists.{at_set, set_else}
-use Rattle.lk_names.specs.Names.{same_lock, same_bool}
-use Rattle.lk_names.specs.declared.holder.Manner.{Manner}
-use Rattle.lk_names.specs.declared.ledger.Entry.{Entry}
-use Rattle.lk_names.specs.declared.names.LockName.{LockName}
-use Rattle.lk_law.proofs.common.Puts.{if-true, if-false}
-use Rattle.lk_domain.specs.Calls.{Mark, Calls, Grip, Unchanged, Takes, Frees, holds_after, holds_in}
-use Rattle.lk_domain.specs.Calls.{lock_name}
-use Rattle.lk_domain.specs.Keeps.{Slot, AtHome, Away, IsOpen, IsSight, AreEnded}
-use Rattle.lk_domain.specs.Keeps.{ArePast, Knows, Keeps, undrawn}
-use Rattle.lk_domain.specs.Keeps.{any_count, sole_count, AllHome}
-use Rattle.lk_domain.specs.Ledgers.{Ledger, Look, Past, turned, opened, closed, listed_look, is_first}
-use Rattle.lk_domain.specs.Plans.{accounts_of}
-use Rattle.lk_domain.specs.Values.{IsOutAt, IsOutWith, Reaches, outs_of, homes_of, FitsUnder}
-use Rattle.lk_values.specs.Guarded.{Among, Guarded, KeepsRights}
-use Rattle.lk_values.proofs.Guards.{step_keeps, step_leaves}
-use Rattle.lk_domain.proofs.Outs.{SameHolds, KeepsOuts, out_after, stays_out, outs_kept, out_reached}
-use Rattle.lk_domain.specs.Views.{past_of, all_past}
-use Rattle.lk_domain.specs.Who.{Who}
-use Rattle.lk_domain.specs.Words.{version_at, balance_at}
-use Rattle.lk_domain.specs.declared.plan.Plan.{Plan}
-use Rattle.lk_domain.specs.declared.view.View.{View}
+use Rattle.std.proofs.Common.{◌≡◌, ◌≢◌, ◌⊎◌, ⊎_elim, inl, inr, ℕ, ◌+◌, ◌<◌, ◌≤◌, List, [], ◌∷◌}
+use Rattle.std.proofs.Common.{◌++◌, length, eqb, get_or, take, set, Option, Some, None, Bool, true}
+use Rattle.std.proofs.Common.{false, refl, sym, ap, ◌∙◌, subst, arith, length-set, get_or-set_other}
+use Rattle.std.proofs.Common.{if◌then◌else◌, ◌&&◌, not}
+use Rattle.lk_domain.proofs.Names.{cases_Bool, at_set, set_else, State, get_elem?, dite, some}
+use Rattle.lk_domain.proofs.Names.{some-injective, ℕ_discrete, same_lock, Manner, Entry, LockName}
+use Rattle.lk_domain.proofs.Names.{if-false, if-true, step_keeps, Among, Calls, Frees, Grip, Mark}
+use Rattle.lk_domain.proofs.Names.{Takes, Unchanged, holds_after, holds_in, lock_name, AllHome}
+use Rattle.lk_domain.proofs.Names.{AreEnded, ArePast, AtHome, Away, IsOpen, Keeps, Knows, Slot}
+use Rattle.lk_domain.proofs.Names.{any_count, sole_count, undrawn, Ledger, Look, Past, is_first}
+use Rattle.lk_domain.proofs.Names.{turned, accounts_of, FitsUnder, IsOutAt, IsOutWith, Reaches}
+use Rattle.lk_domain.proofs.Names.{homes_of, outs_of, all_past, past_of, Who, balance_at}
+use Rattle.lk_domain.proofs.Names.{version_at, Plan, View}
+use mathlib.Core.Option.{Option as Maybe}
+use Rattle.lk_names.specs.Names.{same_bool}
+use Rattle.lk_values.proofs.Guards.{step_leaves}
+use Rattle.lk_values.specs.Guarded.{Guarded, KeepsRights}
+use Rattle.lk_domain.proofs.Outs.{SameHolds, KeepsOuts, out_after, stays_out, outs_kept}
+use Rattle.lk_domain.proofs.Outs.{out_reached}
 use Rattle.lk_domain.proofs.journals.Held.{any_none, free_any, free_sole, sole_le}
-use Rattle.lk_domain.proofs.rows.Kept.{set_at}
-use Rattle.lk_domain.proofs.seats.Totals.{total-same}
-use Rattle.lk_domain.proofs.words.Written.{IsBare}
+use Rattle.lk_domain.proofs.{rows.Kept.set_at, seats.Totals.total-same, words.Written.IsBare}
+use Rattle.lk_domain.specs.{Keeps.IsSight, Ledgers.{opened, closed, listed_look}}
 
 take_all : {A : Type 0} (xs : List A) → take (length xs) xs ≡ xs
 take_all [] = refl

@@ -1,36 +1,24 @@
 -- What the steps ask that write a word of the ledger.
-use Rattle.std.proofs.Common.{◌≡◌, ◌≢◌, inl, inr, ⊎_elim, ℕ, ◌<◌, ◌≤◌, List, ◌∷◌, ◌++◌, length, set, drop}
-use Rattle.std.proofs.Common.{get_or, Some, None, refl, sym, ap, ◌∙◌, subst, arith, length-set, length-append}
-use Rattle.std.proofs.Common.{get_or-set_other, get_or-set_same}
-use mathlib.Core.Logic.{dite}
-use mathlib.Core.Option.{some}
-use native.Mathlib.Decide.{ℕ_discrete}
-use lib.ListN.{get_elem?}
-use Rattle.atomic_table.specs.Table.{State, Me, Step, keeps, gives, rest, Allows}
-use Rattle.atomic_table.proofs.Lists.{at_set, set_here}
-use Rattle.lk_names.specs.declared.ledger.Entry.{Entry}
-use Rattle.lk_domain.specs.Places.{AllOf, places, places_from}
+use Rattle.std.proofs.Common.{◌≡◌, ◌≢◌, inl, inr, ⊎_elim, ℕ, ◌<◌, ◌≤◌, List, ◌∷◌, ◌++◌, length, set}
+use Rattle.std.proofs.Common.{drop, get_or, Some, None, refl, sym, ap, ◌∙◌, subst, arith}
+use Rattle.std.proofs.Common.{length-set, length-append, get_or-set_other, get_or-set_same}
+use Rattle.lk_domain.proofs.Names.{at_set, Allows, Me, State, Step, keeps, rest, get_elem?, dite}
+use Rattle.lk_domain.proofs.Names.{some, ℕ_discrete, Entry, AreEnded, ArePast, Away, Keeps, Knows}
+use Rattle.lk_domain.proofs.Names.{Slot, balance, holds_first, undrawn, Ledger, Out, no_ledger}
+use Rattle.lk_domain.proofs.Names.{IsRunningPlan, accounts_of, locks_of, Stand, IsNumbered, view}
+use Rattle.lk_domain.proofs.Names.{balance_at, version_at, Journal, Plan, Entries, View}
+use Rattle.atomic_table.proofs.Lists.{set_here}
+use Rattle.atomic_table.specs.Table.{gives}
 use Rattle.lk_names.specs.Journal.{Replays}
-use Rattle.lk_domain.specs.Keeps.{Slot, Keeps, Knows, Away, ArePast, AreEnded, balance, undrawn, holds_first}
-use Rattle.lk_domain.specs.Ledgers.{Ledger, Out, no_ledger, stored, brought}
-use Rattle.lk_domain.specs.Plans.{IsRunningPlan, accounts_of, locks_of}
-use Rattle.lk_domain.specs.Plays.{Stores, Brings}
-use Rattle.lk_domain.specs.Seats.{MayCome}
-use Rattle.lk_domain.specs.Stand.{Stand}
-use Rattle.lk_domain.specs.Views.{view, IsNumbered}
-use Rattle.lk_domain.specs.Words.{version_at, balance_at}
-use Rattle.lk_domain.specs.declared.ledger.journal.Journal.{Journal}
-use Rattle.lk_domain.specs.declared.plan.Plan.{Plan}
-use Rattle.lk_domain.specs.declared.slot.Stowed.TheVariants.{Entries}
-use Rattle.lk_domain.specs.declared.view.View.{View}
-use Rattle.lk_domain.proofs.journals.Alone as alone
 use Rattle.lk_domain.proofs.journals.Alone.{paged, some_out, out_is}
-use Rattle.lk_domain.proofs.journals.Grown.{all_grow, places-append, places_kept, past_grows, own_once, other_once, knows_grows}
-use Rattle.lk_domain.proofs.journals.Grown.{drop_front}
-use Rattle.lk_domain.proofs.journals.Purses.{same_slots, first_slot}
-use Rattle.lk_domain.proofs.rows.Kept.{set_at}
+use Rattle.lk_domain.proofs.journals.Grown.{all_grow, places-append, places_kept, past_grows}
+use Rattle.lk_domain.proofs.journals.Grown.{own_once, other_once, knows_grows, drop_front}
 use Rattle.lk_domain.proofs.journals.Loads.{version_page, balance_page}
+use Rattle.lk_domain.proofs.{journals.Purses.{same_slots, first_slot}, rows.Kept.set_at}
 use Rattle.lk_domain.proofs.seats.Totals.{total-same, total-set, apart, drawn}
+use Rattle.lk_domain.specs.{Ledgers.{stored, brought}, Places.{AllOf, places, places_from}}
+use Rattle.lk_domain.specs.{Plays.{Stores, Brings}, Seats.MayCome}
+use Rattle.lk_domain.proofs.journals.Alone as alone
 
 -- for a seat that holds lock 0, and has the journal out
 module _ (k : Plan) (s : State Slot View) (both : Stand k s) (id : ℕ) (v : View)

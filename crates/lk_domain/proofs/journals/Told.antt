@@ -1,21 +1,11 @@
 -- What a processor's type says, after a step on the ledger.
-use Rattle.std.proofs.Common.{◌≡◌, ℕ, List, ◌∷◌, ◌++◌, length, drop, Some, true, false}
-use Rattle.std.proofs.Common.{refl, sym, ap, ◌∙◌, subst}
-use Rattle.atomic_table.specs.Table.{Me, Step}
-use Rattle.lk_names.specs.declared.ledger.Entry.{Entry}
-use Rattle.lk_law.specs.Agree.{halts}
-use Rattle.lk_domain.specs.Calls.{Calls, are_calls}
-use Rattle.lk_domain.specs.Keeps.{Slot}
-use Rattle.lk_domain.specs.Ledgers.{Ledger, Out, brought}
-use Rattle.lk_domain.specs.Marked.{IsNoted}
-use Rattle.lk_domain.specs.Plans.{locks_of}
-use Rattle.lk_domain.specs.Plays.{Brings, carried_with, carried_of}
-use Rattle.lk_domain.specs.Who.{Who}
-use Rattle.lk_domain.specs.declared.ledger.journal.Journal.{Journal}
-use Rattle.lk_domain.specs.declared.notes.Notes.{Notes}
-use Rattle.lk_domain.specs.declared.slot.Stowed.TheVariants.{Entries}
-use Rattle.lk_domain.specs.declared.view.View.{View}
+use Rattle.std.proofs.Common.{◌≡◌, ℕ, List, ◌∷◌, ◌++◌, length, drop, Some, true, false, refl, sym}
+use Rattle.std.proofs.Common.{ap, ◌∙◌, subst}
+use Rattle.lk_domain.proofs.Names.{Me, Step, Entry, halts, Calls, are_calls, Slot, Ledger, Out}
+use Rattle.lk_domain.proofs.Names.{IsNoted, locks_of, carried_of, carried_with, Who, Journal, Notes}
+use Rattle.lk_domain.proofs.Names.{Entries, View}
 use Rattle.lk_domain.proofs.journals.Grown.{drop_front}
+use Rattle.lk_domain.specs.{Ledgers.brought, Plays.Brings}
 
 -- while it keeps its calls
 module _ (old new : Calls) (same : new ≡ old) where

@@ -1,57 +1,28 @@
 -- What the step calls ask by which a front of Dice and Kogan's lock stores the names of nodes.
-use Rattle.std.proofs.Common.{eqb, false}
-use Rattle.std.proofs.Common.{◌≡◌, ◌≢◌, ◌⊎◌, inl, inr, ℕ, get_or, Option, Some, None, true}
-use Rattle.std.proofs.Common.{refl, sym, ap, ◌∙◌, subst, Bool, List, eq-eqb}
-use mathlib.Core.Option.{some}
-use lib.ListN.{get_elem?}
-use Rattle.atomic_table.specs.Table.{State, Me, keeps, Allows}
-use Rattle.lk_names.specs.declared.names.LockName.{LockName}
-use Rattle.lk_names.specs.declared.names.Waiter.{Waiter}
-use Rattle.lk_word.specs.declared.spin_word.NodeName.{NodeName}
-use Rattle.lk_rows.specs.declared.parts.Pc.{Pc}
-use Rattle.lk_rows.specs.declared.parts.Pc.TheVariants.{G1, C3, C4, C5, C6, C9}
-use Rattle.lk_rows.specs.declared.setup.Verb.{Verb}
-use Rattle.lk_rows.specs.Moves.{node_of}
-use Rattle.lk_rows.specs.TopRow.{target}
-use Rattle.lk_law.specs.Cna.{moves_aside}
-use Rattle.lk_law.specs.Families.{chooses}
-use Rattle.lk_law.specs.Known.{choice_node}
-use Rattle.lk_law.specs.Leads.{Named, stored_in, Linked}
-use Rattle.lk_law.specs.Steps.{stores_next, stores_second}
-use Rattle.lk_law.specs.World.{World}
-use Rattle.lk_law.proofs.cna.Knows.{choice_is_used}
-use Rattle.lk_law.proofs.cna.Named.{second_tail_is_used}
-use Rattle.lk_law.proofs.common.Choices.{aside_awake}
-use Rattle.lk_domain.specs.Calls.{StandsOn, acting, Calls, Running, frame_in, running, told}
-use Rattle.lk_domain.specs.Keeps.{Slot}
-use Rattle.lk_domain.specs.NodePlays.{Names, SeesTail, AtAppend, AtCut, AtTail, AtNewTail, appends}
-use Rattle.lk_domain.specs.Plays.{went}
-use Rattle.lk_domain.specs.Runs.{waiter}
-use Rattle.lk_domain.specs.Stand.{Stand}
-use Rattle.lk_domain.specs.Views.{IsNumbered}
-use Rattle.lk_domain.specs.Words.{node_at, link_number, name_number, IsNode, marked}
-use Rattle.lk_domain.specs.declared.part.Part.TheVariants as part
-use Rattle.lk_domain.specs.declared.plan.Plan.{Plan}
-use Rattle.lk_domain.specs.declared.view.View.{View}
-use Rattle.lk_domain.proofs.rows.Lands as lands
-use Rattle.lk_domain.proofs.rows.Sights.{IsSeen, Sees}
-use Rattle.lk_domain.proofs.words.LockPlays.{MayFree}
-use Rattle.lk_domain.proofs.queue.NodePlays as play
+use Rattle.std.proofs.Common.{eqb, false, ◌≡◌, ◌≢◌, ◌⊎◌, inl, inr, ℕ, get_or, Option, Some, None}
+use Rattle.std.proofs.Common.{true, refl, sym, ap, ◌∙◌, subst, Bool, List, eq-eqb}
+use Rattle.lk_domain.proofs.Names.{Allows, Me, State, keeps, get_elem?, some, NodeName, LockName}
+use Rattle.lk_domain.proofs.Names.{Waiter, node_of, target, Pc, C3, C5, G1, Verb, node_cases}
+use Rattle.lk_domain.proofs.Names.{if-true, moves_aside, chooses, choice_node, Linked, Named}
+use Rattle.lk_domain.proofs.Names.{stored_in, looks_along, Uses, stores_next, stores_second, World}
+use Rattle.lk_domain.proofs.Names.{Calls, Running, StandsOn, acting, frame_in, running, told}
+use Rattle.lk_domain.proofs.Names.{told_in, Slot, went, waiter, Stand, IsNumbered, IsNode, OfNode}
+use Rattle.lk_domain.proofs.Names.{link_number, marked, name_number, node_at, Plan, View}
+use Rattle.lk_rows.specs.declared.parts.Pc.TheVariants.{C4, C6, C9}
+use Rattle.lk_law.proofs.{cna.Knows.choice_is_used, cna.Named.second_tail_is_used}
+use Rattle.lk_law.proofs.{common.Choices.aside_awake, running.Links.passed_is_used}
+use Rattle.lk_law.specs.Nodes.{will_link}
+use Rattle.lk_domain.proofs.{Acting.acting_is, Stacks.frame_in-top}
+use Rattle.lk_domain.proofs.{queue.NodeStores.{next_here, tail_here}, queue.OnNodes.IsUsed}
 use Rattle.lk_domain.proofs.queue.Relinks.{remarked, remarked_here, remarked_else, relinked}
-use Rattle.lk_domain.proofs.queue.NodeStores.{next_here, tail_here}
 use Rattle.lk_domain.proofs.rows.Changes.{IsAt, node_part, row_changes}
-use Rattle.lk_domain.specs.Words.{OfNode}
-use Rattle.lk_domain.proofs.queue.OnNodes.{IsUsed}
-use Rattle.lk_domain.proofs.Acting.{acting_is}
-use Rattle.lk_domain.proofs.Stacks.{frame_in-top}
+use Rattle.lk_domain.proofs.{rows.Sights.{IsSeen, Sees}, words.LockPlays.MayFree}
 use Rattle.lk_domain.proofs.words.NodeWords.{stored_zero}
-use Rattle.lk_domain.specs.Calls.{told_in}
+use Rattle.lk_domain.specs.NodePlays.{Names, SeesTail, AtAppend, AtCut, AtTail, AtNewTail, appends}
 use Rattle.lk_domain.specs.NodePlays.{Relinks}
-use Rattle.lk_law.proofs.common.Cases.{node_cases}
-use Rattle.lk_law.proofs.common.Puts.{if-true}
-use Rattle.lk_law.proofs.running.Links.{passed_is_used}
-use Rattle.lk_law.specs.Nodes.{will_link, looks_along}
-use Rattle.lk_law.specs.Premises.{Uses}
+use Rattle.lk_domain.specs.declared.part.Part.TheVariants as part
+use Rattle.lk_domain.proofs.rows.Lands as lands
+use Rattle.lk_domain.proofs.queue.NodePlays as play
 
 -- the rows free nothing
 

@@ -1,19 +1,10 @@
 -- How many calls of a processor are in the slow path.
-use Rattle.std.proofs.Common.{◌≡◌, ℕ, zero, suc, ◌≤◌, List, [], ◌∷◌, length}
-use Rattle.std.proofs.Common.{Some, Bool, false, eqb, ne_eqb, refl, sym, ap, ◌∙◌, arith}
-use Rattle.std.specs.Prelude.{if◌then◌else◌}
-use Rattle.lk_names.specs.History.{LockHistory}
-use Rattle.lk_names.specs.declared.names.Waiter.{Waiter}
-use Rattle.lk_names.specs.declared.names.LockName.{LockName}
-use Rattle.lk_law.specs.Families.{is_slow}
-use Rattle.lk_law.specs.Places.{slow_in}
-use Rattle.lk_law.specs.Snapshot.{before}
-use Rattle.lk_law.specs.SoundWorld.{IsSoundWorld}
-use Rattle.lk_law.specs.World.{World}
+use Rattle.std.proofs.Common.{◌≡◌, ℕ, zero, suc, ◌≤◌, List, [], ◌∷◌, length, Some, Bool, false, eqb}
+use Rattle.std.proofs.Common.{ne_eqb, refl, sym, ap, ◌∙◌, arith, if◌then◌else◌}
+use Rattle.lk_domain.proofs.Names.{LockHistory, LockName, Waiter, if-false, is_slow, IsSoundWorld}
+use Rattle.lk_domain.proofs.Names.{World, Calls, Running, Stacked, frame_in, slows, Mirrors, waiter}
 use Rattle.lk_law.proofs.common.Before.{before_top, before_same}
-use Rattle.lk_law.proofs.common.Puts.{if-false}
-use Rattle.lk_domain.specs.Calls.{Calls, Running, Stacked, frame_in, slows}
-use Rattle.lk_domain.specs.Runs.{waiter, Mirrors}
+use Rattle.lk_law.specs.{Places.slow_in, Snapshot.before}
 use Rattle.lk_domain.proofs.Stacks.{frame_in-above, frame_in-top}
 
 none_before : (slow : Waiter → Bool) (p n : ℕ) → ((c : ℕ) → slow (waiter p c) ≡ false)

@@ -1,50 +1,28 @@
 -- The row that takes a node: with one by the last private store, without one by a look.
-use Rattle.std.proofs.Common.{◌≡◌, ◌≢◌, inl, inr, ℕ, ◌+◌, ◌<◌, ◌≤◌, List, set, get_or, Some, None, Bool, true, false}
-use Rattle.std.proofs.Common.{lt-ltb, le-ltb, refl, sym, ap, ◌∙◌, subst, arith}
-use Rattle.std.specs.Prelude.{if◌then◌else◌}
-use mathlib.Core.Option.{Option as Maybe, some}
-use lib.ListN.{get_elem?}
-use lib.Seq.{set-get_or}
-use Rattle.atomic_table.specs.Table.{State}
-use Rattle.lk_names.specs.declared.names.Waiter.{Waiter}
-use Rattle.lk_names.specs.declared.names.LockName.{LockName}
-use Rattle.lk_word.specs.declared.spin_word.NodeName.{NodeName}
-use Rattle.lk_rows.specs.declared.parts.Node.{Node}
-use Rattle.lk_rows.specs.declared.parts.Frame.{Frame}
-use Rattle.lk_rows.specs.declared.parts.Pc.TheVariants.{G1}
-use Rattle.lk_rows.specs.declared.setup.Verb.{Verb}
-use Rattle.lk_rows.specs.Machine.{rest_node}
-use Rattle.lk_rows.specs.rows.Queue.{own_node}
-use Rattle.lk_law.specs.Leads.{Number, RowDone}
-use Rattle.lk_law.specs.Premises.{Uses}
-use Rattle.lk_law.specs.Snapshot.{same_node}
-use Rattle.lk_law.specs.Steps.{led, reset, put_queued}
-use Rattle.lk_law.specs.World.{World}
-use Rattle.lk_law.proofs.common.Cases.{node_cases}
-use Rattle.lk_law.proofs.common.Puts.{if-true, if-false, same_node-self, same_node-else}
-use Rattle.lk_domain.specs.Calls.{terms_of, StandsOn, row_of, acting, Begins, slows}
-use Rattle.lk_domain.specs.Runs.{waiter, node_name, SeatFits, Runs}
-use Rattle.lk_domain.specs.Words.{Place, OfNode, OfState, place_at, IsPlace, is_read, number_of, with_mark, word_at}
-use Rattle.lk_domain.specs.Words.{node_at, node_number, state_number, stored_number, part_index, has_part, is_last}
-use Rattle.lk_domain.specs.declared.part.Part.{Part}
-use Rattle.lk_domain.specs.declared.plan.Plan.{Plan}
-use Rattle.lk_domain.specs.declared.view.View.{View}
-use Rattle.lk_domain.proofs.rows.Lands as lands
-use Rattle.lk_domain.proofs.rows.Poised.{Poised}
-use Rattle.lk_domain.proofs.rows.Kept.{Halting, counted_after, halting_same}
-use Rattle.lk_domain.specs.declared.part.Part.TheVariants as part
-use Rattle.lk_names.specs.declared.names.Mode.{Mode}
-use Rattle.lk_names.specs.declared.names.Mode.TheVariants.{Virt, Native, Cna, Pv}
-use Rattle.lk_law.specs.Agree.{halts}
-use Rattle.lk_rows.specs.TopRow.{target}
-use Rattle.lk_domain.proofs.words.Written.{renumbered, roll_stays, same_numbers, written}
-use Rattle.lk_domain.proofs.words.NodeWords.{rest_number, below_last, stored_zero}
-use Rattle.lk_domain.proofs.queue.OnNodes.{index_is, in_plan, to_come, to_come_free, counts_beside}
-use Rattle.lk_law.specs.Nodes.{IsFree}
-use Rattle.lk_rows.specs.Moves.{is_node}
-use Rattle.lk_domain.proofs.rows.Users.{kept_marks}
+use Rattle.std.proofs.Common.{◌≡◌, ◌≢◌, inl, inr, ℕ, ◌+◌, ◌<◌, ◌≤◌, List, set, get_or, Some, None}
+use Rattle.std.proofs.Common.{Bool, true, false, lt-ltb, le-ltb, refl, sym, ap, ◌∙◌, subst, arith}
+use Rattle.std.proofs.Common.{if◌then◌else◌, Option}
+use Rattle.lk_domain.proofs.Names.{State, get_elem?, set-get_or, some, NodeName, LockName, Mode}
+use Rattle.lk_domain.proofs.Names.{Cna, Native, Pv, Virt, Waiter, is_node, target, Frame, Node, G1}
+use Rattle.lk_domain.proofs.Names.{Verb, node_cases, if-false, if-true, same_node-else}
+use Rattle.lk_domain.proofs.Names.{same_node-self, halts, Number, RowDone, IsFree, Uses, same_node}
+use Rattle.lk_domain.proofs.Names.{led, World, Begins, StandsOn, acting, row_of, slows, terms_of}
+use Rattle.lk_domain.proofs.Names.{Runs, SeatFits, node_name, waiter, IsPlace, OfNode, OfState}
+use Rattle.lk_domain.proofs.Names.{Place, has_part, is_last, node_at, node_number, number_of}
+use Rattle.lk_domain.proofs.Names.{part_index, place_at, state_number, stored_number, with_mark}
+use Rattle.lk_domain.proofs.Names.{word_at, Part, Plan, View}
+use mathlib.Core.Option.{Option as Maybe}
+use Rattle.lk_rows.specs.{Machine.rest_node, rows.Queue.own_node}
 use Rattle.lk_law.proofs.common.Users.{is_node-true}
-use Rattle.std.proofs.Common.{Option}
+use Rattle.lk_law.specs.Steps.{reset, put_queued}
+use Rattle.lk_domain.proofs.queue.OnNodes.{index_is, in_plan, to_come, to_come_free, counts_beside}
+use Rattle.lk_domain.proofs.{rows.Kept.{Halting, counted_after, halting_same}, rows.Poised.Poised}
+use Rattle.lk_domain.proofs.rows.Users.{kept_marks}
+use Rattle.lk_domain.proofs.words.NodeWords.{rest_number, below_last, stored_zero}
+use Rattle.lk_domain.proofs.words.Written.{renumbered, roll_stays, same_numbers, written}
+use Rattle.lk_domain.specs.Words.{is_read}
+use Rattle.lk_domain.proofs.rows.Lands as lands
+use Rattle.lk_domain.specs.declared.part.Part.TheVariants as part
 
 -- where processors halt the last word that a node has is none of those here
 pub last_awake : (mode : Mode) (q : Part) → is_last mode q ≡ true → has_part mode q ≡ true → halts mode ≡ false

@@ -1,63 +1,34 @@
 -- What the step calls ask by which a front looks for the next, tells it the count of handovers, and
 -- hands it the lead.
-use Rattle.std.proofs.Common.{◌≡◌, ◌≢◌, ◌⊎◌, inl, inr, ℕ, ◌+◌, ◌<◌, get_or, set, Option, Some, None, Bool, true, false}
-use Rattle.std.proofs.Common.{IfSome, refl, sym, ap, ◌∙◌, subst, arith, List, ◌∷◌}
-use Rattle.std.specs.Prelude.{is_some, if◌then◌else◌}
-use mathlib.Core.Option.{some}
-use lib.ListN.{get_elem?}
-use Rattle.atomic_table.specs.Table.{State, Me, keeps, Allows}
-use Rattle.lk_names.specs.declared.names.LockName.{LockName}
-use Rattle.lk_names.specs.declared.names.Waiter.{Waiter}
-use Rattle.lk_word.specs.declared.spin_word.NodeName.{NodeName}
-use Rattle.lk_rows.specs.declared.parts.Flag.{Flag}
-use Rattle.lk_rows.specs.declared.parts.Flag.TheVariants.{Unset}
-use Rattle.lk_rows.specs.declared.parts.Frame.{Frame}
-use Rattle.lk_rows.specs.declared.parts.Node.{Node}
-use Rattle.lk_rows.specs.declared.parts.Pc.{Pc}
-use Rattle.lk_rows.specs.declared.parts.Pc.TheVariants.{G1, G10, G11, C1, C2, C7, C8}
-use Rattle.lk_rows.specs.declared.setup.Verb.{Verb}
-use Rattle.lk_rows.specs.Moves.{node_of}
-use Rattle.lk_rows.specs.Row.{Effect}
-use Rattle.lk_rows.specs.rows.Cna.{Sight, may_stay, search_first, search_on, flag_for}
-use Rattle.lk_rows.specs.TopRow.{target}
-use Rattle.lk_law.specs.Cna.{moves_aside}
-use Rattle.lk_law.specs.Families.{chooses}
-use Rattle.lk_law.specs.Known.{choice_node}
-use Rattle.lk_law.specs.Leads.{Flagged, Number, stored_in, Linked, Named}
-use Rattle.lk_law.specs.Nodes.{looks_along}
-use Rattle.lk_law.specs.Premises.{Uses}
-use Rattle.lk_law.specs.Steps.{stores_flag, stores_next, stores_runs, sight_in}
-use Rattle.lk_law.specs.World.{World}
+use Rattle.std.proofs.Common.{◌≡◌, ◌≢◌, ◌⊎◌, inl, inr, ℕ, ◌+◌, ◌<◌, get_or, set, Option, Some, None}
+use Rattle.std.proofs.Common.{Bool, true, false, IfSome, refl, sym, ap, ◌∙◌, subst, arith, List}
+use Rattle.std.proofs.Common.{◌∷◌, is_some, if◌then◌else◌}
+use Rattle.lk_domain.proofs.Names.{Allows, Me, State, keeps, get_elem?, some, NodeName, LockName}
+use Rattle.lk_domain.proofs.Names.{Waiter, node_of, Effect, target, Flag, Unset, Frame, Node, Pc}
+use Rattle.lk_domain.proofs.Names.{C1, C2, C7, C8, G1, G10, G11, Verb, Sight, search_on}
+use Rattle.lk_domain.proofs.Names.{moves_aside, chooses, choice_node, Flagged, Linked, Named}
+use Rattle.lk_domain.proofs.Names.{Number, stored_in, looks_along, Uses, sight_in, stores_flag}
+use Rattle.lk_domain.proofs.Names.{stores_next, stores_runs, World, Frees, Running, StandsOn}
+use Rattle.lk_domain.proofs.Names.{Unchanged, grip_led, running, Slot, Hands, SeesLink}
+use Rattle.lk_domain.proofs.Names.{looks_behind, went, IsStored, Runs, SeatFits, waiter, Stand}
+use Rattle.lk_domain.proofs.Names.{IsNumbered, IsNode, OfNode, balance_at, flag_number, link_number}
+use Rattle.lk_domain.proofs.Names.{marked, node_at, version_at, Plan, View}
+use Rattle.lk_rows.specs.rows.Cna.{may_stay, search_first, flag_for}
 use Rattle.lk_law.proofs.cna.Knows.{choice_is_used, run_is_short}
 use Rattle.lk_law.proofs.cna.Named.{behind_is_used, chosen_waits_for_it}
 use Rattle.lk_law.proofs.common.Choices.{aside_awake}
-use Rattle.lk_domain.specs.Calls.{Running, running, StandsOn, grip_led, Unchanged, Frees}
-use Rattle.lk_domain.specs.Keeps.{Slot}
-use Rattle.lk_domain.specs.NodePlays.{counting, SeesLink, Hands, Counted, Tells, AtLink, AtSkipped, AtNext}
-use Rattle.lk_domain.specs.NodePlays.{AtOwnRuns, AtRuns, looks_behind, hands, counts, flag_told}
-use Rattle.lk_domain.specs.Plays.{went}
-use Rattle.lk_domain.specs.Runs.{waiter, SeatFits, Runs, IsStored, HasCounted}
-use Rattle.lk_domain.specs.Stand.{Stand}
-use Rattle.lk_domain.specs.Views.{IsNumbered}
-use Rattle.lk_domain.specs.Words.{node_at, flag_number, link_number, version_at, balance_at, IsNode}
-use Rattle.lk_domain.specs.declared.part.Part.TheVariants as part
-use Rattle.lk_domain.specs.declared.plan.Plan.{Plan}
-use Rattle.lk_domain.specs.declared.view.View.{View}
-use Rattle.lk_domain.proofs.rows.Kept as rule
-use Rattle.lk_domain.proofs.rows.Kept.{halting_same}
-use Rattle.lk_domain.proofs.rows.Sights.{Sees}
-use Rattle.lk_domain.proofs.words.LockPlays.{MayFree}
-use Rattle.lk_domain.proofs.journals.Purses.{alters, knows_same}
-use Rattle.lk_domain.proofs.queue.ChoicePlays.{aside}
-use Rattle.lk_domain.proofs.queue.LockSwaps.{set_self}
-use Rattle.lk_domain.proofs.queue.NodePlays as play
-use Rattle.lk_domain.proofs.queue.NodePlays.{link_look, hand_on}
+use Rattle.lk_domain.proofs.{journals.Purses.{alters, knows_same}, queue.ChoicePlays.aside}
+use Rattle.lk_domain.proofs.{queue.LockSwaps.set_self, queue.NodePlays.{link_look, hand_on}}
 use Rattle.lk_domain.proofs.queue.NodeStores.{flag_here, runs_here}
-use Rattle.lk_domain.proofs.rows.Changes.{IsAt}
-use Rattle.lk_domain.specs.Words.{OfNode}
-use Rattle.lk_domain.proofs.queue.OnNodes.{IsUsed, top_live}
-use Rattle.lk_domain.proofs.rows.Users.{IsTrue}
-use Rattle.lk_domain.specs.Words.{marked}
+use Rattle.lk_domain.proofs.{queue.OnNodes.{IsUsed, top_live}, rows.Changes.IsAt}
+use Rattle.lk_domain.proofs.{rows.Kept.halting_same, rows.Sights.Sees, rows.Users.IsTrue}
+use Rattle.lk_domain.proofs.words.LockPlays.{MayFree}
+use Rattle.lk_domain.specs.NodePlays.{counting, Counted, Tells, AtLink, AtSkipped, AtNext}
+use Rattle.lk_domain.specs.NodePlays.{AtOwnRuns, AtRuns, hands, counts, flag_told}
+use Rattle.lk_domain.specs.Runs.{HasCounted}
+use Rattle.lk_domain.specs.declared.part.Part.TheVariants as part
+use Rattle.lk_domain.proofs.rows.Kept as rule
+use Rattle.lk_domain.proofs.queue.NodePlays as play
 
 -- a row that only looks
 

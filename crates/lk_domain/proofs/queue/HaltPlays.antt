@@ -1,45 +1,21 @@
 -- What the steps on flags and links ask where processors halt: a look at the own flag, one at the own link, and the handover.
-use Rattle.std.proofs.Common.{◌≡◌, ◌≢◌, inl, inr, ℕ, get_or, Option, Some, None, Bool, true, false, IfSome}
-use Rattle.std.proofs.Common.{refl, sym, ap, ◌∙◌, subst, ◌⊎◌, ⊎_elim}
-use Rattle.std.specs.Prelude.{if◌then◌else◌}
-use Rattle.atomic_table.specs.Table.{Me, keeps, Allows}
-use Rattle.lk_names.specs.declared.names.LockName.{LockName}
-use Rattle.lk_names.specs.declared.names.Mode.{Mode}
-use Rattle.lk_names.specs.declared.names.Mode.TheVariants.{Virt, Native, Cna, Pv}
-use Rattle.lk_word.specs.declared.spin_word.NodeName.{NodeName}
-use Rattle.lk_rows.specs.declared.parts.Flag.{Flag}
-use Rattle.lk_rows.specs.declared.parts.Flag.TheVariants.{Unset, Go, Second}
-use Rattle.lk_rows.specs.declared.parts.Node.{Node}
-use Rattle.lk_rows.specs.declared.parts.Pc.{Pc}
-use Rattle.lk_rows.specs.declared.parts.Pc.TheVariants.{G1, W1, W4, E14, E15}
-use Rattle.lk_rows.specs.declared.setup.Verb.{Verb}
-use Rattle.lk_rows.specs.Moves.{node_of}
-use Rattle.lk_rows.specs.Row.{Effect}
-use Rattle.lk_rows.specs.rows.Pv.{pv_flag_row, pv_next_row, pv_after_next, is_set}
-use Rattle.lk_rows.specs.TopRow.{target}
-use Rattle.lk_law.specs.Agree.{halts}
-use Rattle.lk_law.specs.Cna.{moves_aside}
-use Rattle.lk_law.specs.Leads.{Flagged, stored_in, Linked}
-use Rattle.lk_law.specs.Steps.{stores_flag, stores_next}
-use Rattle.lk_law.specs.World.{World}
-use Rattle.lk_law.proofs.common.Knows.{halting_next_is_used}
-use Rattle.lk_law.proofs.running.Nodes.{halting_link_is_used}
-use Rattle.lk_domain.specs.Calls.{StandsOn, grip_led, Frees}
-use Rattle.lk_domain.specs.Keeps.{Slot}
-use Rattle.lk_domain.specs.NodePlays.{IsFlagNode, SeesFlag, SeesLink, Hands}
-use Rattle.lk_domain.specs.NodeUses.{AtFlag, AtBehind, AtHand, looks_flag}
-use Rattle.lk_domain.specs.Plays.{went}
-use Rattle.lk_domain.specs.Runs.{waiter}
-use Rattle.lk_domain.specs.Stand.{Stand}
-use Rattle.lk_domain.specs.Views.{IsNumbered}
-use Rattle.lk_domain.specs.Words.{node_at, flag_number, link_number, IsNode, marked}
-use Rattle.lk_domain.specs.declared.part.Part.TheVariants as part
-use Rattle.lk_domain.specs.declared.plan.Plan.{Plan}
-use Rattle.lk_domain.specs.declared.view.View.{View}
-use Rattle.lk_domain.proofs.queue.NodePlays as node
-use Rattle.lk_domain.proofs.queue.NodeStores.{flag_here}
-use Rattle.lk_domain.proofs.queue.OnNodes.{IsUsed}
+use Rattle.std.proofs.Common.{◌≡◌, ◌≢◌, inl, inr, ℕ, get_or, Option, Some, None, Bool, true, false}
+use Rattle.std.proofs.Common.{IfSome, refl, sym, ap, ◌∙◌, subst, ◌⊎◌, ⊎_elim, if◌then◌else◌}
+use Rattle.lk_domain.proofs.Names.{Allows, Me, keeps, NodeName, LockName, Mode, Cna, Native, Pv}
+use Rattle.lk_domain.proofs.Names.{Virt, node_of, Effect, target, Flag, Go, Second, Unset, Node, Pc}
+use Rattle.lk_domain.proofs.Names.{G1, W1, Verb, is_set, halts, moves_aside, Flagged, Linked}
+use Rattle.lk_domain.proofs.Names.{stored_in, stores_flag, stores_next, World, Frees, StandsOn}
+use Rattle.lk_domain.proofs.Names.{grip_led, Slot, Hands, SeesFlag, SeesLink, went, waiter, Stand}
+use Rattle.lk_domain.proofs.Names.{IsNumbered, IsNode, flag_number, link_number, marked, node_at}
+use Rattle.lk_domain.proofs.Names.{Plan, View}
+use Rattle.lk_rows.specs.declared.parts.Pc.TheVariants.{W4, E14, E15}
+use Rattle.lk_rows.specs.rows.Pv.{pv_flag_row, pv_next_row, pv_after_next}
+use Rattle.lk_law.proofs.{common.Knows.halting_next_is_used, running.Nodes.halting_link_is_used}
+use Rattle.lk_domain.proofs.{queue.NodeStores.flag_here, queue.OnNodes.IsUsed}
 use Rattle.lk_domain.proofs.words.LockPlays.{MayFree}
+use Rattle.lk_domain.specs.{NodePlays.IsFlagNode, NodeUses.{AtFlag, AtBehind, AtHand, looks_flag}}
+use Rattle.lk_domain.specs.declared.part.Part.TheVariants as part
+use Rattle.lk_domain.proofs.queue.NodePlays as node
 
 either_frees : {A : Type 0} (b : Bool) (x y : Effect A) → grip_led x.leads ≢ Frees → grip_led y.leads ≢ Frees
     → grip_led (if b then x else y).leads ≢ Frees

@@ -2,35 +2,17 @@
 use Rattle.std.proofs.Common.{◌≡◌, ℕ, zero, suc, ◌<◌, List, [], ◌∷◌, get_or, set, Bool, true, false}
 use Rattle.std.proofs.Common.{eqb, eq-eqb, ne_eqb, refl, sym, ap, ◌∙◌, subst}
 use Rattle.std.specs.Prelude.{unwrap_or}
-use prog.Atomic.{either}
-use mathlib.Core.Logic.{dite}
-use mathlib.Core.Option.{some}
-use native.Mathlib.Decide.{ℕ_discrete}
-use lib.ListN.{get_elem?}
-use Rattle.atomic_table.specs.Table.{State, Me, Step, keeps, Allows}
+use Rattle.lk_domain.proofs.Names.{Allows, Me, State, Step, keeps, get_elem?, dite, some}
+use Rattle.lk_domain.proofs.Names.{ℕ_discrete, either, IsPackable, Fields, LockName, Mode, target}
+use Rattle.lk_domain.proofs.Names.{Frame, Pc, Verb, Word, Begins, Calls, StandsOn, acting, AllHome}
+use Rattle.lk_domain.proofs.Names.{Slot, layout_in, locks_of, ActsOn, made, Stand, IsNumbered}
+use Rattle.lk_domain.proofs.Names.{word_at, Plan, View}
 use Rattle.atomic_table.proofs.Lists.{set_again}
-use Rattle.lk_names.specs.declared.names.LockName.{LockName}
-use Rattle.lk_names.specs.declared.names.Mode.{Mode}
-use Rattle.lk_word.specs.declared.spin_word.Fields.{Fields}
-use Rattle.lk_word.specs.SpinWord.{packed, IsPackable}
-use Rattle.lk_rows.specs.declared.parts.Frame.{Frame}
-use Rattle.lk_rows.specs.declared.parts.Pc.{Pc}
-use Rattle.lk_rows.specs.declared.setup.Verb.{Verb}
-use Rattle.lk_rows.specs.TopRow.{target}
-use Rattle.lk_law.specs.Leads.{Word}
-use Rattle.lk_domain.specs.Calls.{Calls, StandsOn, acting, Begins}
-use Rattle.lk_domain.specs.Keeps.{AllHome, Slot}
-use Rattle.lk_domain.specs.Plans.{locks_of, layout_in}
-use Rattle.lk_domain.specs.Plays.{ActsOn, IsWord, Swaps, made, rowed}
-use Rattle.lk_domain.specs.Stand.{Stand}
-use Rattle.lk_domain.specs.Views.{IsNumbered}
-use Rattle.lk_domain.specs.Words.{word_at}
-use Rattle.lk_domain.specs.declared.plan.Plan.{Plan}
-use Rattle.lk_domain.specs.declared.view.View.{View}
-use Rattle.lk_domain.proofs.Acting.{is_first_of, acting_now}
-use Rattle.lk_domain.proofs.words.LockPlays as plays
-use Rattle.lk_domain.proofs.words.LockPlays.{MayFree}
+use Rattle.lk_word.specs.SpinWord.{packed}
+use Rattle.lk_domain.proofs.{Acting.{is_first_of, acting_now}, words.LockPlays.MayFree}
 use Rattle.lk_domain.proofs.words.OnWords.{OnWord, word_stores, KnownHere}
+use Rattle.lk_domain.specs.Plays.{IsWord, Swaps, rowed}
+use Rattle.lk_domain.proofs.words.LockPlays as plays
 
 pub set_self : (ws : List ℕ) (i : ℕ) → set ws i (get_or ws i 0) ≡ ws
 set_self [] i = refl

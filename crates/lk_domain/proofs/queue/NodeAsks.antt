@@ -1,28 +1,12 @@
 -- What the step calls on the words of nodes ask, in which a word is named by its place.
-use Rattle.std.proofs.Common.{◌≡◌, ◌≢◌, ℕ, ◌<◌, Some}
-use Rattle.std.proofs.Common.{true, sym, ap, ◌∙◌, subst, arith}
-use Rattle.atomic_table.specs.Table.{Me, Step, Allows}
-use Rattle.lk_names.specs.declared.names.LockName.{LockName}
-use Rattle.lk_word.specs.declared.spin_word.NodeName.{NodeName}
-use Rattle.lk_rows.specs.declared.parts.Pc.TheVariants.{G6}
-use Rattle.lk_rows.specs.declared.setup.Verb.{Verb}
-use Rattle.lk_domain.specs.Calls.{slows}
-use Rattle.lk_domain.specs.Keeps.{Slot}
-use Rattle.lk_domain.specs.NodePlays.{AtOwn, AtPrev, AtEntry, AtBare}
-use Rattle.lk_domain.specs.NodePlays.{Readies, Enters, Links, SeesFlag}
-use Rattle.lk_domain.specs.Plans.{locks_of}
-use Rattle.lk_domain.specs.Runs.{node_name}
-use Rattle.lk_domain.specs.Stand.{Stand}
-use Rattle.lk_domain.specs.Views.{IsNumbered}
-use Rattle.lk_domain.specs.Words.{word_at, node_at, part_index}
-use Rattle.lk_domain.specs.Words.{name_number, has_part, is_last, IsNode}
-use Rattle.lk_domain.specs.declared.part.Part.{Part}
-use Rattle.lk_domain.specs.declared.part.Part.TheVariants as part
-use Rattle.lk_domain.specs.declared.plan.Plan.{Plan}
-use Rattle.lk_domain.specs.declared.view.View.{View}
-use Rattle.lk_domain.specs.Words.{marked}
-use Rattle.std.proofs.Common.{Bool}
+use Rattle.std.proofs.Common.{◌≡◌, ◌≢◌, ℕ, ◌<◌, Some, true, sym, ap, ◌∙◌, subst, arith, Bool}
+use Rattle.lk_domain.proofs.Names.{Allows, Me, Step, NodeName, LockName, G6, Verb, slows, Slot}
+use Rattle.lk_domain.proofs.Names.{Enters, SeesFlag, locks_of, node_name, Stand, IsNumbered, IsNode}
+use Rattle.lk_domain.proofs.Names.{has_part, is_last, marked, name_number, node_at, part_index}
+use Rattle.lk_domain.proofs.Names.{word_at, Part, Plan, View}
 use Rattle.lk_domain.proofs.queue.NodePlays.{flag_look, link_on, reset_on, enter_on, enter_bare_on}
+use Rattle.lk_domain.specs.NodePlays.{AtOwn, AtPrev, AtEntry, AtBare, Readies, Links}
+use Rattle.lk_domain.specs.declared.part.Part.TheVariants as part
 
 module _ (k plan : Plan) (slots id : ℕ) (m : Me Slot View) (number : IsNumbered m.0) (v : Verb) (i : ℕ)
     (same : k ≡ plan) where

@@ -1,74 +1,40 @@
 -- What the step calls on the words of nodes ask.
-use Rattle.std.proofs.Common.{◌≡◌, ◌≢◌, inl, inr, ℕ, ◌<◌, ◌≤◌, get_or, set, Option, Some, None}
-use Rattle.std.proofs.Common.{◌⊎◌, true, refl, sym, ap, ◌∙◌, subst, arith, IfSome}
-use mathlib.Core.Option.{some}
-use lib.ListN.{get_elem?}
-use Rattle.atomic_table.specs.Table.{State, Me, Step, keeps, Allows}
-use Rattle.lk_names.specs.declared.names.LockName.{LockName}
-use Rattle.lk_names.specs.declared.names.Waiter.{Waiter}
-use Rattle.lk_word.specs.declared.spin_word.NodeName.{NodeName}
-use Rattle.lk_rows.specs.declared.parts.Flag.{Flag}
-use Rattle.lk_rows.specs.declared.parts.Flag.TheVariants.{Unset, Go, Second}
-use Rattle.lk_rows.specs.declared.parts.Node.{Node}
-use Rattle.lk_rows.specs.declared.parts.Pc.{Pc}
-use Rattle.lk_rows.specs.declared.parts.Pc.TheVariants.{G1, G5, G6, G10, G11}
-use Rattle.lk_rows.specs.declared.setup.Verb.{Verb}
-use Rattle.lk_rows.specs.Moves.{node_of, is_node as has_name}
-use Rattle.lk_rows.specs.rows.Queue.{flag_row, next_row}
-use Rattle.lk_rows.specs.TopRow.{target}
-use Rattle.lk_law.specs.Cna.{moves_aside}
-use Rattle.lk_law.specs.Known.{KnownNodes}
-use Rattle.lk_law.specs.Leads.{Met, Number, Flagged, Named, held_lock, stored_in, Linked}
-use Rattle.lk_law.specs.Premises.{Uses}
-use Rattle.lk_law.specs.SoundWorld.{spin_part}
-use Rattle.lk_law.specs.SpinWorld.{IsSoundSpinWorld}
-use Rattle.lk_law.specs.Steps.{stores_flag, stores_next}
-use Rattle.lk_law.specs.World.{World}
-use Rattle.lk_law.proofs.cna.Named.{first_is_used}
-use Rattle.lk_law.proofs.common.Knows.{row_knows, next_is_used}
-use Rattle.lk_law.proofs.running.Nodes.{link_is_used, prev_is_used}
-use Rattle.lk_domain.specs.Calls.{terms_of, Calls, StandsOn, acting, Begins, row_of, slows, grip_of}
-use Rattle.lk_domain.specs.Keeps.{Slot, Keeps, Knows}
-use Rattle.lk_domain.specs.Ledgers.{turned}
-use Rattle.lk_domain.specs.NodePlays.{IsFlagNode}
-use Rattle.lk_domain.specs.NodePlays.{readied_by, Readies, Enters, Links, Hands, SeesFlag, SeesLink}
-use Rattle.lk_domain.specs.Plans.{locks_of}
-use Rattle.lk_domain.specs.Plays.{went, turned_of}
-use Rattle.lk_domain.specs.Runs.{waiter, node_name, Runs, AreTold}
-use Rattle.lk_domain.specs.Stand.{Stand}
-use Rattle.lk_domain.specs.Views.{IsNumbered, own_number}
-use Rattle.lk_domain.specs.Words.{word_at, node_at, flag_number, part_index}
-use Rattle.lk_domain.specs.Words.{link_number, name_number, node_number, has_part, is_last, IsNode}
-use Rattle.lk_domain.specs.declared.part.Part.{Part}
-use Rattle.lk_domain.specs.declared.part.Part.TheVariants as part
-use Rattle.lk_domain.specs.declared.plan.Plan.{Plan}
-use Rattle.lk_domain.specs.declared.view.View.{View}
-use Rattle.lk_domain.proofs.Acting.{acting_is, acts_on, begins_on}
-use Rattle.lk_domain.proofs.rows.Fresh as fresh
-use Rattle.lk_domain.proofs.rows.Lands as lands
-use Rattle.lk_domain.proofs.rows.Sights.{IsSeen, Sees}
-use Rattle.lk_domain.proofs.rows.Poised.{Poised}
-use Rattle.lk_domain.proofs.words.NodeWords.{part_at, stored_plain, stored_zero}
-use Rattle.lk_domain.proofs.words.Written.{IsBare, bare}
-use Rattle.lk_domain.proofs.words.LockPlays.{MayFree, acting_any, acting_sole}
-use Rattle.lk_domain.proofs.words.OnWords.{seated}
-use Rattle.lk_domain.proofs.Outs.{acting_holds}
+use Rattle.std.proofs.Common.{◌≡◌, ◌≢◌, inl, inr, ℕ, ◌<◌, ◌≤◌, get_or, set, Option, Some, None, ◌⊎◌}
+use Rattle.std.proofs.Common.{true, refl, sym, ap, ◌∙◌, subst, arith, IfSome, Bool}
+use Rattle.lk_domain.proofs.Names.{Allows, Me, State, Step, keeps, get_elem?, some, NodeName}
+use Rattle.lk_domain.proofs.Names.{LockName, Waiter, node_of, target, Flag, Go, Second, Unset, Node}
+use Rattle.lk_domain.proofs.Names.{Pc, G1, G5, G6, G10, G11, Verb, same_node-self, halts}
+use Rattle.lk_domain.proofs.Names.{moves_aside, Flagged, Linked, Met, Named, Number, held_lock}
+use Rattle.lk_domain.proofs.Names.{stored_in, looks_along, Uses, IsSoundSpinWorld, stores_flag}
+use Rattle.lk_domain.proofs.Names.{stores_next, World, Begins, Calls, StandsOn, acting, grip_of}
+use Rattle.lk_domain.proofs.Names.{is_inner, plain, row_of, slows, terms_of, Keeps, Knows, Slot}
+use Rattle.lk_domain.proofs.Names.{turned, Enters, Hands, SeesFlag, SeesLink, locks_of, turned_of}
+use Rattle.lk_domain.proofs.Names.{went, AreTold, Runs, node_name, waiter, Stand, IsNumbered}
+use Rattle.lk_domain.proofs.Names.{own_number, IsNode, OfLock, OfNode, flag_number, has_part}
+use Rattle.lk_domain.proofs.Names.{is_last, link_number, marked, name_number, node_at, node_number}
+use Rattle.lk_domain.proofs.Names.{part_index, stored_number, word_at, Part, Plan, View}
+use Rattle.lk_rows.specs.{Moves.is_node as has_name, rows.Queue.{flag_row, next_row}}
+use Rattle.lk_law.proofs.{cna.Named.first_is_used, common.Knows.{row_knows, next_is_used}}
+use Rattle.lk_law.proofs.{common.Users.node_is_ones, running.Nodes.{link_is_used, prev_is_used}}
+use Rattle.lk_law.specs.{Known.KnownNodes, SoundWorld.spin_part}
+use Rattle.lk_domain.proofs.{Acting.{acting_is, acts_on, begins_on}, Outs.acting_holds}
 use Rattle.lk_domain.proofs.journals.Purses.{alters_at, knows_after, knows_same}
-use Rattle.lk_domain.proofs.queue.Entries as entry
-use Rattle.lk_domain.proofs.queue.OnNodes as on
 use Rattle.lk_domain.proofs.queue.NodeStores.{met_of, met_there, flag_here, next_here}
 use Rattle.lk_domain.proofs.queue.OnNodes.{IsUsed}
-use Rattle.lk_domain.proofs.queue.Unfreed.{G1_frees, G5_frees, G6_frees, G10_frees, G11_frees}
-use Rattle.lk_domain.proofs.rows.Users.{AreRight, KeepsMarks, IsTrue}
-use Rattle.lk_domain.specs.Calls.{plain, is_inner}
-use Rattle.lk_domain.specs.Words.{OfLock, OfNode, marked, stored_number}
-use Rattle.lk_law.specs.Agree.{halts}
-use Rattle.std.proofs.Common.{Bool}
-use Rattle.lk_domain.proofs.rows.Changes.{IsAt, next_changes, node_part, row_changes}
-use Rattle.lk_law.proofs.common.Puts.{same_node-self}
-use Rattle.lk_law.proofs.common.Users.{node_is_ones}
-use Rattle.lk_law.specs.Nodes.{looks_along}
 use Rattle.lk_domain.proofs.queue.Relinks.{remarked, remarked_here, remarked_else, relinked, alone}
+use Rattle.lk_domain.proofs.queue.Unfreed.{G1_frees, G5_frees, G6_frees, G10_frees, G11_frees}
+use Rattle.lk_domain.proofs.rows.Changes.{IsAt, next_changes, node_part, row_changes}
+use Rattle.lk_domain.proofs.{rows.Poised.Poised, rows.Sights.{IsSeen, Sees}}
+use Rattle.lk_domain.proofs.rows.Users.{AreRight, KeepsMarks, IsTrue}
+use Rattle.lk_domain.proofs.words.LockPlays.{MayFree, acting_any, acting_sole}
+use Rattle.lk_domain.proofs.words.NodeWords.{part_at, stored_plain, stored_zero}
+use Rattle.lk_domain.proofs.{words.OnWords.seated, words.Written.{IsBare, bare}}
+use Rattle.lk_domain.specs.NodePlays.{IsFlagNode, readied_by, Readies, Links}
+use Rattle.lk_domain.specs.declared.part.Part.TheVariants as part
+use Rattle.lk_domain.proofs.rows.Fresh as fresh
+use Rattle.lk_domain.proofs.rows.Lands as lands
+use Rattle.lk_domain.proofs.queue.Entries as entry
+use Rattle.lk_domain.proofs.queue.OnNodes as on
 
 -- the ledger part of a step of the newest call
 module _ (k : Plan) (id : ℕ) (m : Me Slot View) (number : IsNumbered m.0) (v : Verb) (lock : LockName) (pc : Pc)

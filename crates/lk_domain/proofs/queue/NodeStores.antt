@@ -1,22 +1,12 @@
 -- The words of nodes, of which a row stores one.
 use Rattle.std.proofs.Common.{◌≡◌, ℕ, Option, Some, None, refl, ap}
 use Rattle.std.specs.Prelude.{unwrap_or}
-use Rattle.lk_names.specs.declared.names.Waiter.{Waiter}
-use Rattle.lk_word.specs.declared.spin_word.NodeName.{NodeName}
-use Rattle.lk_rows.specs.declared.parts.Flag.{Flag}
-use Rattle.lk_rows.specs.declared.parts.Node.{Node}
-use Rattle.lk_rows.specs.declared.parts.Frame.{Frame}
-use Rattle.lk_rows.specs.declared.parts.Pc.{Pc}
-use Rattle.lk_rows.specs.TopRow.{Target, FlagOf, NextOf, ChoiceFlag, ChoiceNext, SecondTailOf, RunsOf}
-use Rattle.lk_rows.specs.TopRow.{PvFlag, PvNext, RwWord}
-use Rattle.lk_law.specs.Leads.{Met, Flagged, Named, Number, met_in}
-use Rattle.lk_law.specs.Steps.{stores_flag, stores_next, stores_second, stores_runs}
-use Rattle.lk_law.specs.World.{World}
-use Rattle.lk_domain.specs.Words.{OfNode}
-use Rattle.lk_domain.specs.declared.part.Part.{Part}
+use Rattle.lk_domain.proofs.Names.{NodeName, Waiter, ChoiceFlag, ChoiceNext, FlagOf, NextOf, PvFlag}
+use Rattle.lk_domain.proofs.Names.{PvNext, RunsOf, RwWord, SecondTailOf, Target, Flag, Frame, Node}
+use Rattle.lk_domain.proofs.Names.{Pc, Flagged, Met, Named, Number, met_in, stores_flag}
+use Rattle.lk_domain.proofs.Names.{stores_next, stores_runs, stores_second, World, OfNode, Part}
+use Rattle.lk_domain.proofs.{rows.Changes.{IsAt, node_here}, rows.Grips.IsOwn}
 use Rattle.lk_domain.specs.declared.part.Part.TheVariants as part
-use Rattle.lk_domain.proofs.rows.Changes.{IsAt, node_here}
-use Rattle.lk_domain.proofs.rows.Grips.{IsOwn}
 
 -- what a row meets there
 abbrev pub met_of : Part → Node → Met

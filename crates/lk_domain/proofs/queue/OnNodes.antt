@@ -1,67 +1,34 @@
 -- The steps on a word of a node.
-use Rattle.std.proofs.Common.{◌≡◌, ◌≢◌, ◌⊎◌, inl, inr, ℕ, ◌+◌, ◌<◌, List, set, get_or, Bool}
-use Rattle.std.proofs.Common.{Option, Some, None, true, refl, sym, ap, ◌∙◌, subst, arith, false}
-use Rattle.std.proofs.Common.{◌∷◌, eqb, eq-eqb}
-use Rattle.std.specs.Prelude.{is_some, ◌≤◌}
-use mathlib.Core.Option.{Option as Maybe, some}
-use lib.ListN.{get_elem?}
-use Rattle.atomic_table.specs.Table.{State}
-use Rattle.lk_names.specs.declared.names.Waiter.{Waiter}
-use Rattle.lk_names.specs.declared.names.LockName.{LockName}
-use Rattle.lk_word.specs.declared.spin_word.NodeName.{NodeName}
-use Rattle.lk_rows.specs.declared.parts.Flag.TheVariants.{Second}
-use Rattle.lk_rows.specs.declared.parts.Node.{Node}
-use Rattle.lk_rows.specs.declared.parts.Frame.{Frame}
-use Rattle.lk_rows.specs.declared.parts.Pc.{Pc}
-use Rattle.lk_rows.specs.declared.parts.Pc.TheVariants.{G1}
-use Rattle.lk_rows.specs.declared.setup.Verb.{Verb}
-use Rattle.lk_rows.specs.TopRow.{target}
-use Rattle.lk_names.specs.History.{LockHistory}
-use Rattle.lk_rows.specs.Moves.{node_of}
-use Rattle.lk_law.specs.Families.{chooses}
-use Rattle.lk_law.specs.Known.{IsOwnNode}
-use Rattle.lk_law.specs.Phase.{has_node}
-use Rattle.lk_law.specs.Places.{phase_at, phase_if, phase_of}
-use Rattle.lk_law.specs.SpinWorld.{IsSoundSpinWorld}
-use Rattle.lk_law.specs.Leads.{stored_in, enters, Met}
-use Rattle.lk_law.specs.Nodes.{IsFree}
-use Rattle.lk_law.specs.Premises.{Uses}
-use Rattle.lk_law.specs.Steps.{put_node}
-use Rattle.lk_law.specs.World.{World}
-use Rattle.lk_law.proofs.common.Cases.{node_cases}
-use Rattle.lk_law.proofs.common.Puts.{if-true}
-use Rattle.lk_law.proofs.common.Users.{is_node-own}
-use Rattle.lk_law.proofs.running.Calm.{node_comes_at_entry}
+use Rattle.std.proofs.Common.{◌≡◌, ◌≢◌, ◌⊎◌, inl, inr, ℕ, ◌+◌, ◌<◌, List, set, get_or, Bool, Option}
+use Rattle.std.proofs.Common.{Some, None, true, refl, sym, ap, ◌∙◌, subst, arith, false, ◌∷◌, eqb}
+use Rattle.std.proofs.Common.{eq-eqb, is_some, ◌≤◌}
+use Rattle.lk_domain.proofs.Names.{State, get_elem?, some, NodeName, LockHistory, LockName, Waiter}
+use Rattle.lk_domain.proofs.Names.{node_of, target, Second, Frame, Node, Pc, G1, Verb, is_set}
+use Rattle.lk_domain.proofs.Names.{node_cases, if-true, chooses, Met, enters, stored_in, IsFree}
+use Rattle.lk_domain.proofs.Names.{phase_at, phase_if, phase_of, Uses, IsSoundSpinWorld, World}
+use Rattle.lk_domain.proofs.Names.{attended_stays, Begins, Calls, Running, StandsOn, acting}
+use Rattle.lk_domain.proofs.Names.{frame_in, plain, row_of, slows, terms_of, cpus_of, Runs}
+use Rattle.lk_domain.proofs.Names.{SeatFits, Seeks, node_name, waiter, IsNode, OfNode, Place}
+use Rattle.lk_domain.proofs.Names.{has_part, node_at, node_number, number_of, part_index}
+use Rattle.lk_domain.proofs.Names.{stored_number, with_mark, Part, Plan, View}
+use mathlib.Core.Option.{Option as Maybe}
+use Rattle.lk_law.proofs.{common.Users.is_node-own, running.Calm.node_comes_at_entry}
 use Rattle.lk_law.proofs.running.Nodes.{free_node_keeps, fresh_is_free}
-use Rattle.lk_domain.specs.Calls.{terms_of, Running, frame_in, Calls, StandsOn, row_of, acting, Begins, slows}
-use Rattle.lk_domain.specs.Plans.{cpus_of}
-use Rattle.lk_domain.specs.Runs.{waiter, node_name, SeatFits, Runs, IsCounted, Seeks}
-use Rattle.lk_domain.specs.Words.{Place, OfNode, node_at, node_number, number_of, stored_number, with_mark}
-use Rattle.lk_domain.specs.Words.{part_index, has_part, IsNode}
-use Rattle.lk_domain.specs.declared.part.Part.{Part}
-use Rattle.lk_domain.specs.declared.part.Part.TheVariants as part
-use Rattle.lk_domain.specs.declared.plan.Plan.{Plan}
-use Rattle.lk_domain.specs.declared.view.View.{View}
-use Rattle.lk_domain.proofs.rows.Begun.{Elsewhere}
-use Rattle.lk_domain.proofs.rows.Grips.{own_row}
-use Rattle.lk_domain.proofs.rows.Kept as rule
-use Rattle.lk_domain.proofs.rows.Lands as lands
+use Rattle.lk_law.specs.{Known.IsOwnNode, Phase.has_node, Steps.put_node}
+use Rattle.lk_domain.proofs.{Stacks.frame_in-above, queue.Counts.queued_is}
+use Rattle.lk_domain.proofs.{queue.NodeStores.{met_of, own_by, met_there}, rows.Begun.Elsewhere}
 use Rattle.lk_domain.proofs.rows.Changes.{IsAt, node_part, node_here, node_else, reset_changes}
-use Rattle.lk_domain.proofs.rows.Kept.{KeepsComing, keeps, halting_same}
-use Rattle.lk_domain.proofs.rows.Writes.{row_else, beside}
-use Rattle.lk_domain.proofs.rows.Sights.{IsSeen, Sees}
-use Rattle.lk_domain.proofs.rows.Poised.{Poised}
+use Rattle.lk_domain.proofs.{rows.Grips.own_row, rows.Kept.{KeepsComing, keeps, halting_same}}
+use Rattle.lk_domain.proofs.{rows.Poised.Poised, rows.Sights.{IsSeen, Sees}}
+use Rattle.lk_domain.proofs.rows.Users.{KeepsMarks, IsTrue, bare_me, kept_marks}
+use Rattle.lk_domain.proofs.{rows.Writes.{row_else, beside}, seats.Totals.drawn}
 use Rattle.lk_domain.proofs.words.NodeWords.{part_is, part_cases, reset_part, reset_number}
 use Rattle.lk_domain.proofs.words.NodeWords.{reset_others, stored_plain, stored_zero}
 use Rattle.lk_domain.proofs.words.Written.{written, roll_stays}
-use Rattle.lk_domain.proofs.Stacks.{frame_in-above}
-use Rattle.lk_domain.proofs.seats.Totals.{drawn}
-use Rattle.lk_domain.proofs.queue.Counts.{queued_is}
-use Rattle.lk_domain.proofs.queue.NodeStores.{met_of, own_by, met_there}
-use Rattle.lk_domain.proofs.rows.Users.{KeepsMarks, IsTrue, bare_me, kept_marks}
-use Rattle.lk_rows.specs.rows.Pv.{is_set}
-use Rattle.lk_waits.proofs.Attended.{attended_stays}
-use Rattle.lk_domain.specs.Calls.{plain}
+use Rattle.lk_domain.specs.Runs.{IsCounted}
+use Rattle.lk_domain.specs.declared.part.Part.TheVariants as part
+use Rattle.lk_domain.proofs.rows.Kept as rule
+use Rattle.lk_domain.proofs.rows.Lands as lands
 
 -- the node to come of a processor
 abbrev pub to_come : (NodeName → Node) → World → ℕ → Node

@@ -1,37 +1,20 @@
 -- What the steps of the pending path, and of a front, do to the number of a lock's word.
-use Rattle.std.proofs.Common.{◌≡◌, inl, inr, ℕ, ◌+◌, ◌-◌, ◌*◌, ◌%◌, ◌^◌, ◌<◌, ◌≤◌, Option, Some, None}
-use Rattle.std.proofs.Common.{Bool, true, false, eqb, eq-eqb, ne_eqb, refl, sym, ap, ◌∙◌, subst, arith}
-use Rattle.std.proofs.lemmas.Bool.{cases_Bool}
-use Rattle.std.proofs.lemmas.Nat.{or_block}
-use Rattle.std.specs.Int.Bits.{bit_or, or_zero_r}
-use Rattle.std.specs.Prelude.{if◌then◌else◌, unwrap_or, ◌&&◌, not}
-use prog.Atomic.{either}
-use Rattle.lk_names.specs.declared.names.Mode.{Mode}
-use Rattle.lk_names.specs.declared.names.Mode.TheVariants.{Virt, Native, Cna, Pv}
-use Rattle.lk_names.specs.declared.names.Waiter.{Waiter}
-use Rattle.lk_word.specs.declared.spin_word.NodeName.{NodeName}
-use Rattle.lk_word.specs.declared.spin_word.Locked.{Locked}
-use Rattle.lk_word.specs.declared.spin_word.Locked.TheVariants.{Free, Held, Slow}
-use Rattle.lk_word.specs.declared.spin_word.Fields.{Fields}
-use Rattle.lk_word.specs.declared.spin_word.Layout.{Layout}
-use Rattle.lk_word.specs.declared.spin_word.Layout.TheVariants.{Narrow, Wide}
-use Rattle.lk_word.specs.SpinWord.{packed, IsPackable, locked_number, tail_number, index_unit}
-use Rattle.lk_word.proofs.SpinWordLemmas.{packed_small, packed_injective, from_narrow}
-use Rattle.lk_rows.specs.declared.parts.Frame.{Frame}
-use Rattle.lk_rows.specs.declared.parts.Pc.{Pc}
-use Rattle.lk_rows.specs.declared.parts.Pc.TheVariants.{P1, P2, P4, G4, G8, G9, C10}
-use Rattle.lk_rows.specs.declared.setup.Verb.TheVariants.{Lock}
-use Rattle.lk_rows.specs.Moves.{is_node, node_of}
-use Rattle.lk_rows.specs.rows.Spin.{is_unlocked}
-use Rattle.lk_rows.specs.rows.Cna.{is_held, is_last}
-use Rattle.lk_rows.specs.rows.Queue.{is_sole, after_arrival}
-use Rattle.lk_rows.specs.TopRow.{target}
-use Rattle.lk_law.specs.Leads.{course_in}
-use Rattle.lk_law.specs.World.{World}
-use Rattle.lk_law.proofs.common.Puts.{same_node-self}
+use Rattle.std.proofs.Common.{◌≡◌, inl, inr, ℕ, ◌+◌, ◌-◌, ◌*◌, ◌%◌, ◌^◌, ◌<◌, ◌≤◌, Option, Some}
+use Rattle.std.proofs.Common.{None, Bool, true, false, eqb, eq-eqb, ne_eqb, refl, sym, ap, ◌∙◌}
+use Rattle.std.proofs.Common.{subst, arith, if◌then◌else◌, ◌&&◌, not}
+use Rattle.std.specs.Prelude.{unwrap_or}
+use Rattle.lk_domain.proofs.Names.{cases_Bool, or_block, bit_or, or_zero_r, either, packed_small}
+use Rattle.lk_domain.proofs.Names.{IsPackable, locked_number, tail_number, Fields, Layout, Narrow}
+use Rattle.lk_domain.proofs.Names.{Wide, Locked, Free, Held, Slow, NodeName, Mode, Cna, Native, Pv}
+use Rattle.lk_domain.proofs.Names.{Virt, Waiter, is_node, node_of, target, Frame, Pc, C10, G4, G8}
+use Rattle.lk_domain.proofs.Names.{G9, P1, P2, P4, Lock, is_held, is_sole, is_unlocked}
+use Rattle.lk_domain.proofs.Names.{same_node-self, course_in, World, Frees, grip_led, grip_of}
+use Rattle.lk_domain.proofs.Names.{arrives_by, claims_by, clears_by, pends_by, promotes_by}
+use Rattle.lk_domain.proofs.Names.{soles_by, stakes_by}
+use Rattle.lk_word.proofs.SpinWordLemmas.{packed_injective, from_narrow}
+use Rattle.lk_word.specs.SpinWord.{packed, index_unit}
+use Rattle.lk_rows.specs.{rows.Cna.is_last, rows.Queue.after_arrival}
 use Rattle.lk_law.proofs.common.Users.{is_node-true}
-use Rattle.lk_domain.specs.Calls.{grip_of, grip_led, Frees}
-use Rattle.lk_domain.specs.Rows.{pends_by, clears_by, claims_by, arrives_by, soles_by, stakes_by, promotes_by}
 use Rattle.lk_domain.proofs.words.Numbers.{held_packed}
 use Rattle.lk_domain.proofs.words.OnWords.{OnWord, word_stores, KnownHere}
 

@@ -1,24 +1,11 @@
 -- The marks of links where one is stored.
-use Rattle.std.proofs.Common.{◌≡◌, ◌≢◌, inl, inr, ◌≤◌, Some}
-use Rattle.std.proofs.Common.{true, sym, ap, ◌∙◌, subst, arith}
-use Rattle.lk_names.specs.declared.names.LockName.{LockName}
-use Rattle.lk_names.specs.declared.names.Waiter.{Waiter}
-use Rattle.lk_word.specs.declared.spin_word.NodeName.{NodeName}
-use Rattle.lk_law.specs.Premises.{Uses}
-use Rattle.lk_law.specs.SpinWorld.{IsSoundSpinWorld}
-use Rattle.lk_law.specs.World.{World}
-use Rattle.lk_names.specs.History.{LockHistory}
-use Rattle.lk_domain.proofs.rows.Users.{AreRight, KeepsMarks}
-use Rattle.lk_domain.specs.Calls.{is_inner}
-use Rattle.lk_law.specs.Agree.{halts}
-use Rattle.std.proofs.Common.{Bool, false, List, ◌∷◌, length, suc}
-use Rattle.lk_domain.specs.Calls.{Running, Stacked}
-use Rattle.lk_law.proofs.common.Cases.{node_cases}
-use Rattle.lk_law.proofs.common.Puts.{if-false, if-true, same_node-else, same_node-self}
+use Rattle.std.proofs.Common.{◌≡◌, ◌≢◌, inl, inr, ◌≤◌, Some, true, sym, ap, ◌∙◌, subst, arith, Bool}
+use Rattle.std.proofs.Common.{false, List, ◌∷◌, length, suc, if◌then◌else◌}
+use Rattle.lk_domain.proofs.Names.{NodeName, LockHistory, LockName, Waiter, node_cases, if-false}
+use Rattle.lk_domain.proofs.Names.{if-true, same_node-else, same_node-self, halts, IsFree, Uses}
+use Rattle.lk_domain.proofs.Names.{same_node, IsSoundSpinWorld, World, Running, Stacked, is_inner}
 use Rattle.lk_law.proofs.running.Links.{linked_is_used}
-use Rattle.lk_law.specs.Nodes.{IsFree}
-use Rattle.lk_law.specs.Snapshot.{same_node}
-use Rattle.std.specs.Prelude.{if◌then◌else◌}
+use Rattle.lk_domain.proofs.rows.Users.{AreRight, KeepsMarks}
 
 -- the marks of the links, where one is stored
 abbrev pub remarked : NodeName → Bool → (NodeName → Bool) → NodeName → Bool

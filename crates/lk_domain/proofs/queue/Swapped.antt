@@ -1,21 +1,10 @@
 -- What is left of a processor's own after an exchange that may be tried again.
 use Rattle.std.proofs.Common.{◌≡◌, ℕ, Some, true, refl, sym, ap, ◌∙◌, subst}
-use mathlib.Core.Logic.{dite}
-use native.Mathlib.Decide.{ℕ_discrete}
-use Rattle.atomic_table.specs.Table.{Me}
-use Rattle.lk_names.specs.declared.names.LockName.{LockName}
-use Rattle.lk_rows.specs.declared.setup.Verb.{Verb}
-use Rattle.lk_domain.specs.Calls.{are_calls}
-use Rattle.lk_domain.specs.Keeps.{Slot}
-use Rattle.lk_domain.specs.Marked.{IsNoted}
-use Rattle.lk_domain.specs.Plans.{locks_of}
-use Rattle.lk_domain.specs.Plays.{ActsIn, MadeBy, SwappedBy, carried_of}
-use Rattle.lk_domain.specs.Rows.{arrives_by}
-use Rattle.lk_domain.specs.declared.notes.Notes.{Notes}
-use Rattle.lk_domain.specs.declared.view.View.{View}
+use Rattle.lk_domain.proofs.Names.{Me, dite, ℕ_discrete, LockName, Verb, are_calls, Slot, IsNoted}
+use Rattle.lk_domain.proofs.Names.{locks_of, ActsIn, MadeBy, carried_of, arrives_by, Notes, View}
+use Rattle.lk_domain.proofs.{turns.Noted.stays, words.Onward.{made_on, now_of, arrive_later}}
+use Rattle.lk_domain.specs.Plays.{SwappedBy}
 use Rattle.lk_domain.proofs.turns.Carried as row
-use Rattle.lk_domain.proofs.turns.Noted.{stays}
-use Rattle.lk_domain.proofs.words.Onward.{made_on, now_of, arrive_later}
 use Rattle.lk_domain.proofs.turns.Stepped as stepped
 
 -- the seat has its number and what it carries, and the notes are still of its calls

@@ -1,14 +1,8 @@
 -- The rows on the words of nodes free nothing.
 use Rattle.std.proofs.Common.{◌≡◌, ℕ, Option, Some, None}
-use Rattle.lk_names.specs.declared.names.Mode.{Mode}
-use Rattle.lk_names.specs.declared.names.Mode.TheVariants.{Virt, Native, Cna, Pv}
-use Rattle.lk_word.specs.declared.spin_word.NodeName.{NodeName}
-use Rattle.lk_rows.specs.declared.parts.Flag.{Flag}
-use Rattle.lk_rows.specs.declared.parts.Flag.TheVariants.{Unset, Go, Second}
-use Rattle.lk_rows.specs.declared.parts.Pc.TheVariants.{G1, G5, G6, G10, G11}
-use Rattle.lk_rows.specs.Moves.{node_of}
+use Rattle.lk_domain.proofs.Names.{NodeName, Mode, Cna, Native, Pv, Virt, node_of, Flag, Go, Second}
+use Rattle.lk_domain.proofs.Names.{Unset, G1, G5, G6, G10, G11, Frees, grip_led}
 use Rattle.lk_rows.specs.rows.Queue.{after_flag, after_next, after_link}
-use Rattle.lk_domain.specs.Calls.{grip_led, Frees}
 use Rattle.lk_domain.proofs.words.LockPlays.{MayFree}
 
 link_frees : (mode : Mode) (turns : ℕ) → grip_led (after_link mode turns) ≡ Frees → ⊥

@@ -1,59 +1,34 @@
 -- A call begins: what becomes of the world for which words and seats stand.
-use Rattle.std.proofs.Common.{◌≡◌, ◌≢◌, ◌⊎◌, inl, inr, ℕ, List, [], ◌∷◌, length, Option}
-use Rattle.std.proofs.Common.{Some, None, Bool, true, false, eqb, eq-eqb, ne_eqb, refl, sym, ap, ◌∙◌}
-use Rattle.std.proofs.Common.{subst, arith}
-use Rattle.std.proofs.lemmas.Bool.{cases_eq}
-use Rattle.std.specs.Prelude.{if◌then◌else◌, ◌&&◌, not, is_some}
-use Rattle.lk_names.specs.Names.{same_lock, same_waiter}
-use Rattle.lk_names.specs.History.{LockHistory}
-use Rattle.lk_names.specs.declared.holder.Manner.{Manner}
-use Rattle.lk_names.specs.declared.holder.Manner.TheVariants.{Spins, Reads, Writes}
-use Rattle.lk_names.specs.declared.names.Kind.{Kind}
-use Rattle.lk_names.specs.declared.names.Kind.TheVariants.{Spin, Rw}
-use Rattle.lk_names.specs.declared.names.Waiter.{Waiter}
-use Rattle.lk_names.specs.declared.names.LockName.{LockName}
-use Rattle.lk_word.specs.declared.spin_word.NodeName.{NodeName}
-use Rattle.lk_rows.specs.declared.parts.Frame.{Frame}
-use Rattle.lk_rows.specs.declared.parts.Pc.{Pc}
-use Rattle.lk_rows.specs.declared.parts.Pc.TheVariants.{Z1, Z2}
-use Rattle.lk_rows.specs.declared.setup.Verb.{Verb}
-use Rattle.lk_rows.specs.declared.setup.Verb.TheVariants.{Lock, Try, Unlock, Read, TryRead}
-use Rattle.lk_rows.specs.declared.setup.Verb.TheVariants.{RUnlock, Write, TryWrite, WUnlock}
-use Rattle.lk_rows.specs.Machine.{rest_frame}
-use Rattle.lk_rows.specs.Moves.{node_of, first_place}
-use Rattle.lk_rows.specs.declared.parts.Node.{Node}
-use Rattle.lk_rows.specs.rows.Pv.{is_set}
-use Rattle.lk_word.specs.declared.spin_word.Fields.{Fields}
-use Rattle.lk_rows.specs.Programs.{way_before, kind_of}
-use Rattle.lk_law.specs.Agree.{halts}
-use Rattle.lk_law.specs.Families.{may_halt}
-use Rattle.lk_law.specs.Holds.{hands_hold, held_by, hands_share, shared_by}
-use Rattle.lk_law.specs.Phase.{Phase, seeks}
-use Rattle.lk_law.specs.Phase.Phase.{Idle, Releases}
-use Rattle.lk_law.specs.Places.{phase_at, phase_if, phase_of, phase_on}
-use Rattle.lk_law.specs.Premises.{HasNoSleeper}
+use Rattle.std.proofs.Common.{◌≡◌, ◌≢◌, ◌⊎◌, inl, inr, ℕ, List, [], ◌∷◌, length, Option, Some, None}
+use Rattle.std.proofs.Common.{Bool, true, false, eqb, eq-eqb, ne_eqb, refl, sym, ap, ◌∙◌, subst}
+use Rattle.std.proofs.Common.{arith, if◌then◌else◌, ◌&&◌, not, is_some}
+use Rattle.lk_domain.proofs.Names.{cases_eq, Fields, NodeName, LockHistory, same_lock, Manner}
+use Rattle.lk_domain.proofs.Names.{Reads, Spins, Writes, Kind, Rw, Spin, LockName, Waiter}
+use Rattle.lk_domain.proofs.Names.{first_place, node_of, kind_of, Frame, Node, Pc, Z1, Z2, Verb}
+use Rattle.lk_domain.proofs.Names.{Lock, RUnlock, Read, Try, TryRead, TryWrite, Unlock, WUnlock}
+use Rattle.lk_domain.proofs.Names.{Write, is_set, if-false, if-true, same_lock-else, same_lock-self}
+use Rattle.lk_domain.proofs.Names.{same_lock-true, halts, may_halt, phase_at, phase_if, phase_of}
+use Rattle.lk_domain.proofs.Names.{IsSoundWorld, RwFits, is_rw, is_rw_name, World, attended_stays}
+use Rattle.lk_domain.proofs.Names.{IsAttended, AreHeld, Calls, Hold, MayBegin, Rests, Running}
+use Rattle.lk_domain.proofs.Names.{Stacked, begin, begins_release, begun, frame_in, held_in}
+use Rattle.lk_domain.proofs.Names.{holds_in, is_leaving, lock_name, moved_to, releases, running}
+use Rattle.lk_domain.proofs.Names.{way_in, Mirrors, waiter}
+use Rattle.lk_names.specs.Names.{same_waiter}
+use Rattle.lk_rows.specs.{Machine.rest_frame, Programs.way_before}
+use Rattle.lk_law.proofs.{common.Cases.lock_cases, common.Puts.same_waiter-else}
+use Rattle.lk_law.proofs.{common.Sames.same_waiter-self, running.Holds.{holder_is_one, hold_moves}}
+use Rattle.lk_law.proofs.running.SharedHolds.{share_moves, put_here, put_waiters, put_locks}
+use Rattle.lk_law.proofs.rw.Begins.{begin_keeps, end_keeps}
+use Rattle.lk_law.specs.{Holds.{hands_hold, held_by, hands_share, shared_by}, Phase.{Phase, seeks}}
+use Rattle.lk_law.specs.{Phase.Phase.{Idle, Releases}, Places.phase_on, Premises.HasNoSleeper}
 use Rattle.lk_law.specs.RwPhase.{RwPhase, asks, rests}
 use Rattle.lk_law.specs.RwPhase.RwPhase.{Away, Asks, Biases, Inside, Joins, Announces, Frees}
 use Rattle.lk_law.specs.RwPhase.RwPhase.{Unreads, Unwrites}
-use Rattle.lk_law.specs.SoundWorld.{IsSoundWorld, RwFits, is_rw, is_rw_name, rw_phases, rw_phase_on}
-use Rattle.lk_law.specs.SoundWorld.{rw_phase_of, rw_phase_if, rw_phase_at}
+use Rattle.lk_law.specs.SoundWorld.{rw_phases, rw_phase_on, rw_phase_of, rw_phase_if, rw_phase_at}
 use Rattle.lk_law.specs.Steps.{put_frame, put_held}
-use Rattle.lk_law.specs.World.{World}
-use Rattle.lk_law.proofs.common.Cases.{lock_cases}
-use Rattle.lk_law.proofs.common.Puts.{if-true, if-false, same_lock-else, same_waiter-else}
-use Rattle.lk_law.proofs.common.Sames.{same_lock-self, same_lock-true, same_waiter-self}
-use Rattle.lk_law.proofs.rw.Begins.{begin_keeps, end_keeps}
-use Rattle.lk_law.proofs.running.Holds.{holder_is_one, hold_moves}
-use Rattle.lk_law.proofs.running.SharedHolds.{share_moves, put_here, put_waiters, put_locks}
-use Rattle.lk_waits.specs.Attended.{IsAttended}
-use Rattle.lk_waits.proofs.Attended.{attended_stays}
 use Rattle.lk_waits.proofs.Quiet.{IsQuietRow, IsQuietFrame, first_quiet}
-use Rattle.lk_domain.specs.Calls.{Running, running, Hold, Calls, Stacked, Rests, frame_in, held_in}
-use Rattle.lk_domain.specs.Calls.{holds_in, moved_to, lock_name, begun, begin, MayBegin, AreHeld, releases}
-use Rattle.lk_domain.specs.Calls.{way_in, is_leaving, begins_release}
-use Rattle.lk_domain.specs.Runs.{waiter, Mirrors}
-use Rattle.lk_domain.proofs.Manners.{held_cases, held_spun, moved-here, moved_same}
-use Rattle.lk_domain.proofs.Manners.{way_of, held_once, moved_way}
+use Rattle.lk_domain.proofs.Manners.{held_cases, held_spun, moved-here, moved_same, way_of}
+use Rattle.lk_domain.proofs.Manners.{held_once, moved_way}
 use Rattle.lk_domain.proofs.Stacks.{frame_in-above, unheld, holder_of, moved-else, moved-away}
 
 -- words and nodes, halts, kicks and the hash, and what never changes, are as before

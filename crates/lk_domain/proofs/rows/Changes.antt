@@ -1,42 +1,24 @@
 -- A row changes one word of a world at most.
-use Rattle.std.proofs.Common.{◌≡◌, ◌≢◌, inl, inr, ℕ, Option, Some, None, Bool, true, false, refl, sym, ap, ◌∙◌}
-use Rattle.std.proofs.Common.{subst, eqb, ne_eqb, eq-eqb}
-use Rattle.std.proofs.lemmas.Bool.{cases_Bool}
-use Rattle.std.specs.Prelude.{if◌then◌else◌}
-use Rattle.lk_names.specs.Names.{same_lock}
-use Rattle.lk_names.specs.declared.names.LockName.{LockName}
-use Rattle.lk_names.specs.declared.names.Waiter.{Waiter}
-use Rattle.lk_word.specs.RwWord.{packed_rw}
-use Rattle.lk_word.specs.SpinWord.{packed}
-use Rattle.lk_word.specs.declared.rw_word.RwFields.{RwFields}
-use Rattle.lk_word.specs.declared.spin_word.Fields.{Fields}
-use Rattle.lk_word.specs.declared.spin_word.NodeName.{NodeName}
-use Rattle.lk_rows.specs.Moves.{rw_name}
-use Rattle.lk_rows.specs.TopRow.{Target, SpinWord, QueueWord, Queued, FlagOf, NextOf, ChoiceWord, ChoiceFlag}
-use Rattle.lk_rows.specs.TopRow.{ChoiceNext, SecondTailOf, RunsOf, PvWord, PvFlag, PvNext, StateOf, HashEntry}
-use Rattle.lk_rows.specs.TopRow.{Halted, KickOf, RwWord, target}
-use Rattle.lk_rows.specs.declared.parts.Flag.{Flag}
-use Rattle.lk_rows.specs.declared.parts.Frame.{Frame}
-use Rattle.lk_rows.specs.declared.parts.Node.{Node}
-use Rattle.lk_rows.specs.declared.parts.Pc.{Pc}
-use Rattle.lk_rows.specs.declared.parts.Pc.TheVariants.{G1, W6, E6, E9, E12, K3, U3}
+use Rattle.std.proofs.Common.{◌≡◌, ◌≢◌, inl, inr, ℕ, Option, Some, None, Bool, true, false, refl}
+use Rattle.std.proofs.Common.{sym, ap, ◌∙◌, subst, eqb, ne_eqb, eq-eqb, if◌then◌else◌}
+use Rattle.lk_domain.proofs.Names.{cases_Bool, RwFields, Fields, NodeName, same_lock, LockName}
+use Rattle.lk_domain.proofs.Names.{Waiter, rw_name, ChoiceFlag, ChoiceNext, ChoiceWord, FlagOf}
+use Rattle.lk_domain.proofs.Names.{NextOf, PvFlag, PvNext, PvWord, QueueWord, RunsOf, RwWord}
+use Rattle.lk_domain.proofs.Names.{SecondTailOf, SpinWord, Target, target, Flag, Frame, Node, Pc}
+use Rattle.lk_domain.proofs.Names.{G1, U3, node_cases, if-false, if-true, same_lock-else}
+use Rattle.lk_domain.proofs.Names.{same_node-else, same_node-self, stored_in, same_node, is_rw_name}
+use Rattle.lk_domain.proofs.Names.{stores_flag, stores_next, stores_runs, stores_second, World}
+use Rattle.lk_domain.proofs.Names.{kind_at, layout_in, OfLock, OfNode, OfState, Place, node_number}
+use Rattle.lk_domain.proofs.Names.{number_of, state_number, Part, Plan}
+use Rattle.lk_word.specs.{RwWord.packed_rw, SpinWord.packed}
+use Rattle.lk_rows.specs.TopRow.{Queued, StateOf, HashEntry, Halted, KickOf}
+use Rattle.lk_rows.specs.declared.parts.Pc.TheVariants.{W6, E6, E9, E12, K3}
 use Rattle.lk_rows.specs.declared.parts.State.{State}
-use Rattle.lk_law.specs.Leads.{stored_in}
-use Rattle.lk_law.specs.SoundWorld.{is_rw_name}
-use Rattle.lk_law.specs.Snapshot.{same_node}
-use Rattle.lk_law.specs.Steps.{put_halted, put_kicked, put_node, put_rw, put_word, stores_flag, stores_kicked}
-use Rattle.lk_law.specs.Steps.{stores_next, stores_runs, stores_rw, stores_second, stores_state, stores_word}
-use Rattle.lk_law.specs.World.{World}
-use Rattle.lk_law.proofs.common.Cases.{node_cases}
-use Rattle.lk_law.proofs.common.Puts.{if-false, if-true, same_lock-else, same_node-else, same_node-self}
-use Rattle.lk_domain.specs.Calls.{halted_after}
-use Rattle.lk_domain.specs.Plans.{kind_at, layout_in}
-use Rattle.lk_domain.specs.Words.{Place, OfLock, OfNode, OfState, OfKick, number_of}
-use Rattle.lk_domain.specs.Words.{node_number, state_number, mark_number}
-use Rattle.lk_domain.specs.declared.part.Part.{Part}
-use Rattle.lk_domain.specs.declared.part.Part.TheVariants as part
-use Rattle.lk_domain.specs.declared.plan.Plan.{Plan}
+use Rattle.lk_law.specs.Steps.{put_halted, put_kicked, put_node, put_rw, put_word, stores_kicked}
+use Rattle.lk_law.specs.Steps.{stores_rw, stores_state, stores_word}
 use Rattle.lk_domain.proofs.words.NodeWords.{reset_part, reset_others}
+use Rattle.lk_domain.specs.{Calls.halted_after, Words.{OfKick, mark_number}}
+use Rattle.lk_domain.specs.declared.part.Part.TheVariants as part
 
 -- a world is another but for the word of x; links, the hash, and who has halted are the same
 pub record Changes (k : Plan) (m n : World) (x : Place) : Type 0 where

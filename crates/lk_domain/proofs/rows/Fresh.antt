@@ -1,30 +1,15 @@
 -- A row that takes a lock finds that its processor does not hold it; and what a row makes of the
 -- ledger.
 use Rattle.std.proofs.Common.{◌≡◌, ℕ, List, [], ◌∷◌, ◌++◌, Option, Some, None, false, refl, ap, ◌∙◌}
-use mathlib.Core.Option.{some}
-use lib.ListN.{get_elem?}
-use Rattle.atomic_table.specs.Table.{State}
-use Rattle.lk_names.specs.declared.holder.Manner.{Manner}
-use Rattle.lk_names.specs.declared.names.Mode.{Mode}
-use Rattle.lk_names.specs.declared.names.LockName.{LockName}
-use Rattle.lk_rows.specs.declared.parts.Frame.{Frame}
-use Rattle.lk_rows.specs.declared.parts.Pc.{Pc}
-use Rattle.lk_rows.specs.declared.setup.Verb.{Verb}
-use Rattle.lk_domain.specs.Calls.{Outlook}
-use Rattle.lk_rows.specs.TopRow.{Target, target}
-use Rattle.lk_law.specs.Leads.{Met, Course, held_lock}
-use Rattle.lk_law.proofs.common.Puts.{if_cases}
-use Rattle.lk_domain.specs.Calls.{terms_of, Mark, mark, Running, running, Calls, StandsOn, Grip}
-use Rattle.lk_domain.specs.Calls.{Unchanged, Takes, Frees, read_at, sight_of}
-use Rattle.lk_domain.specs.Calls.{grip_of, holds_in, acting, Begins, plain}
-use Rattle.lk_domain.specs.Ledgers.{Ledger, turned, opened, closed, is_first}
-use Rattle.lk_domain.specs.Plays.{turned_on, turned_of, turned_at}
-use Rattle.lk_domain.specs.Runs.{Runs}
-use Rattle.lk_domain.specs.declared.plan.Plan.{Plan}
-use Rattle.lk_domain.specs.declared.view.View.{View}
+use Rattle.lk_domain.proofs.Names.{State, get_elem?, some, Manner, LockName, Mode, Target, target}
+use Rattle.lk_domain.proofs.Names.{Frame, Pc, Verb, if_cases, Course, Met, held_lock, Begins, Calls}
+use Rattle.lk_domain.proofs.Names.{Frees, Grip, Mark, Outlook, Running, StandsOn, Takes, Unchanged}
+use Rattle.lk_domain.proofs.Names.{acting, grip_of, holds_in, mark, plain, read_at, running}
+use Rattle.lk_domain.proofs.Names.{sight_of, terms_of, Ledger, is_first, turned, turned_of, Runs}
+use Rattle.lk_domain.proofs.Names.{Plan, View}
+use Rattle.lk_domain.proofs.{rows.Sights.IsSeen, rows.Users.IsTrue}
+use Rattle.lk_domain.specs.{Ledgers.{opened, closed}, Plays.{turned_on, turned_at}}
 use Rattle.lk_domain.proofs.rows.Lands as lands
-use Rattle.lk_domain.proofs.rows.Sights.{IsSeen}
-use Rattle.lk_domain.proofs.rows.Users.{IsTrue}
 
 module _ (k : Plan) {S : Type 0} (s : State S View) (st : Runs k s) (id : ℕ) (v : View)
     (me : get_elem? s.views id ≡ some v) (p : ℕ) (is : v.who.number ≡ Some p) (verb : Verb)

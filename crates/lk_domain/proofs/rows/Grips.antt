@@ -1,36 +1,19 @@
 -- What a row takes, and where it then leads.
-use Rattle.std.proofs.Common.{◌≡◌, ◌≢◌, ◌⊎◌, inl, inr, Some, Bool, true, false}
-use Rattle.std.proofs.Common.{refl, sym, ap, ◌∙◌, arith}
-use Rattle.std.proofs.lemmas.Bool.{cases_Bool}
-use Rattle.std.specs.Prelude.{if◌then◌else◌, ◌&&◌, not}
-use Rattle.lk_names.specs.declared.holder.Manner.{Manner}
-use Rattle.lk_names.specs.declared.holder.Manner.TheVariants.{Spins}
+use Rattle.std.proofs.Common.{◌≡◌, ◌≢◌, ◌⊎◌, inl, inr, Some, Bool, true, false, refl, sym, ap, ◌∙◌}
+use Rattle.std.proofs.Common.{arith, if◌then◌else◌, ◌&&◌, not}
+use Rattle.lk_domain.proofs.Names.{cases_Bool, RwFields, Fields, Manner, Spins, LockName, Mode, Cna}
+use Rattle.lk_domain.proofs.Names.{Native, Pv, Virt, Waiter, first_place, Effect, Lead, Leaves}
+use Rattle.lk_domain.proofs.Names.{Yields, RwWord, Target, target, Frame, Pc, R1, R2, R3, R4, R5}
+use Rattle.lk_domain.proofs.Names.{U1, U2, U3, U4, Wr1, Wr2, Wr3, Wr4, Wr5, Wr6, Y1, Y2, Y3, Y4, Y5}
+use Rattle.lk_domain.proofs.Names.{Z1, Z2, Unlock, is_held, is_cleared, is_empty, is_open, rw_row}
+use Rattle.lk_domain.proofs.Names.{is_rw_row, Course, course_in, enters, held_lock, RwFits, is_rw}
+use Rattle.lk_domain.proofs.Names.{is_rw_name, led, World, Frees, Suits, Takes, begins_release}
+use Rattle.lk_domain.proofs.Names.{grip_led, grip_of, grip_told, is_leaving, is_seeking, releases}
 use Rattle.lk_names.specs.declared.events.What.{What}
 use Rattle.lk_names.specs.declared.events.What.TheVariants.{RTake, RRelease, WTake, WRelease}
-use Rattle.lk_names.specs.declared.names.LockName.{LockName}
-use Rattle.lk_names.specs.declared.names.Mode.{Mode}
-use Rattle.lk_names.specs.declared.names.Mode.TheVariants.{Virt, Native, Cna, Pv}
-use Rattle.lk_names.specs.declared.names.Waiter.{Waiter}
-use Rattle.lk_word.specs.declared.rw_word.RwFields.{RwFields}
-use Rattle.lk_word.specs.declared.spin_word.Fields.{Fields}
-use Rattle.lk_rows.specs.declared.parts.Frame.{Frame}
-use Rattle.lk_rows.specs.declared.parts.Pc.{Pc}
-use Rattle.lk_rows.specs.declared.parts.Pc.TheVariants.{U2, U3, U4, U5}
-use Rattle.lk_rows.specs.declared.parts.Pc.TheVariants.{U1, R1, R2, R3, R4, R5, Wr1, Wr2, Wr3, Wr4}
-use Rattle.lk_rows.specs.declared.parts.Pc.TheVariants.{Wr5, Wr6, Y1, Y2, Y3, Y4, Y5, Z1, Z2}
-use Rattle.lk_rows.specs.declared.setup.Verb.TheVariants.{Unlock}
-use Rattle.lk_rows.specs.Moves.{first_place}
-use Rattle.lk_rows.specs.Row.{Effect, Lead, Granted, Freed, Leaves, Yields, Tell, Says}
-use Rattle.lk_rows.specs.rows.Rw.{rw_row, is_open, is_empty, is_cleared}
-use Rattle.lk_rows.specs.rows.Cna.{is_held}
-use Rattle.lk_rows.specs.TopRow.{Target, RwWord, target}
-use Rattle.lk_law.specs.Families.{is_rw_row}
-use Rattle.lk_law.specs.Leads.{Course, course_in, held_lock, enters}
-use Rattle.lk_law.specs.RwPhase.{is_inner}
-use Rattle.lk_law.specs.SoundWorld.{RwFits, is_rw, is_rw_name, rw_own_phase}
-use Rattle.lk_law.specs.Steps.{led}
-use Rattle.lk_law.specs.World.{World}
-use Rattle.lk_domain.specs.Calls.{Takes, Frees, grip_of, grip_led, grip_told, is_seeking, is_spun, Suits, releases, is_leaving, begins_release}
+use Rattle.lk_rows.specs.{Row.{Granted, Freed, Tell, Says}, declared.parts.Pc.TheVariants.U5}
+use Rattle.lk_law.specs.{RwPhase.is_inner, SoundWorld.rw_own_phase}
+use Rattle.lk_domain.specs.Calls.{is_spun}
 
 -- on what a row of a spinlock or a wait lock operates
 abbrev pub IsOwn : Target → Type 0

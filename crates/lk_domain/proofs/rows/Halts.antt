@@ -1,28 +1,16 @@
 -- Where a row leads that is none of a reader or a writer.
-use Rattle.std.proofs.Common.{◌≡◌, inl, inr, Option, Some, None, Bool, true, false}
-use Rattle.std.proofs.Common.{refl, ap, arith}
-use Rattle.std.proofs.lemmas.Bool.{cases_Bool}
-use Rattle.std.specs.Prelude.{if◌then◌else◌, is_some, ◌&&◌, ◌-◌, ◌==◌, not}
-use Rattle.lk_names.specs.declared.names.Waiter.{Waiter}
-use Rattle.lk_word.specs.declared.spin_word.NodeName.{NodeName}
-use Rattle.lk_rows.specs.declared.parts.Frame.{Frame}
-use Rattle.lk_rows.specs.declared.parts.Pc.{Pc}
-use Rattle.lk_rows.specs.declared.parts.Pc.TheVariants.{H1, H2, W1, W2, W3, W4, W5, W6, W7, E1, E2}
-use Rattle.lk_rows.specs.declared.parts.Pc.TheVariants.{E3, E4, E5, E6, E7, E8, E9, E10, E11, E12}
-use Rattle.lk_rows.specs.declared.parts.Pc.TheVariants.{E13, E14, E15, K1, K2, K3, U2, U3, U4, U5}
-use Rattle.lk_rows.specs.Moves.{node_of}
-use Rattle.lk_rows.specs.Row.{Effect}
-use Rattle.lk_rows.specs.rows.Spin.{is_unlocked}
-use Rattle.lk_rows.specs.rows.Cna.{is_held, is_last}
-use Rattle.lk_rows.specs.rows.Pv.{pv_after_next, is_set, is_running, is_halted, is_slow_byte, after_given_up}
-use Rattle.lk_rows.specs.TopRow.{target}
-use Rattle.lk_law.specs.Families.{may_halt, is_rw_row}
-use Rattle.lk_law.specs.Leads.{course_in, is_release}
-use Rattle.lk_law.specs.Premises.{IsThen}
-use Rattle.lk_law.specs.Steps.{led}
-use Rattle.lk_law.specs.World.{World}
+use Rattle.std.proofs.Common.{◌≡◌, inl, inr, Option, Some, None, Bool, true, false, refl, ap, arith}
+use Rattle.std.proofs.Common.{if◌then◌else◌, is_some, ◌&&◌, ◌-◌, ◌==◌, not}
+use Rattle.lk_domain.proofs.Names.{cases_Bool, NodeName, Waiter, node_of, Effect, target, Frame, Pc}
+use Rattle.lk_domain.proofs.Names.{H1, U2, U3, U4, W1, is_held, is_set, is_unlocked, is_rw_row}
+use Rattle.lk_domain.proofs.Names.{may_halt, course_in, IsThen, led, World, begins_release}
+use Rattle.lk_rows.specs.declared.parts.Pc.TheVariants.{H2, W2, W3, W4, W5, W6, W7, E1, E2, E3, E4}
+use Rattle.lk_rows.specs.declared.parts.Pc.TheVariants.{E5, E6, E7, E8, E9, E10, E11, E12, E13, E14}
+use Rattle.lk_rows.specs.{declared.parts.Pc.TheVariants.{E15, K1, K2, K3, U5}, rows.Cna.is_last}
+use Rattle.lk_rows.specs.rows.Pv.{pv_after_next, is_running, is_halted, is_slow_byte}
+use Rattle.lk_rows.specs.rows.Pv.{after_given_up}
 use Rattle.lk_law.proofs.running.Calm.{row_is_calm}
-use Rattle.lk_domain.specs.Calls.{begins_release}
+use Rattle.lk_law.specs.Leads.{is_release}
 
 -- a row that is none of a reader or a writer leads to no first row of a release
 weaker : (o : Option Pc) → is_release o ≡ false → begins_release o ≡ false

@@ -1,47 +1,21 @@
 -- A step of a seat keeps the machine part of the rule, where the words afterwards are those of the new
 -- world: what is the other processors'.
-use Rattle.std.proofs.Common.{◌≡◌, ◌≢◌, ◌⊎◌, ⊎_elim, inl, inr, ℕ, zero, suc, ◌+◌, ◌<◌, ◌≤◌, List, ◌∷◌, ◌++◌, []}
-use Rattle.std.proofs.Common.{length, set, get_or, Option, Some, None, Bool, true, false, refl, sym}
-use Rattle.std.proofs.Common.{ap, ◌∙◌, subst, arith}
-use Rattle.std.proofs.lemmas.Bool.{cases_eq}
-use Rattle.std.specs.Prelude.{if◌then◌else◌, is_some}
-use mathlib.Core.Option.{Option as Maybe, some, some-injective, some-ne-none}
-use lib.ListN.{get_elem?}
-use Rattle.atomic_table.specs.Table.{State}
-use Rattle.atomic_table.proofs.Lists.{at_set, set_else}
-use Rattle.lk_names.specs.History.{LockHistory}
-use Rattle.lk_names.specs.declared.names.Kind.{Kind}
-use Rattle.lk_names.specs.declared.names.Mode.{Mode}
-use Rattle.lk_names.specs.declared.names.Waiter.{Waiter}
-use Rattle.lk_names.specs.declared.names.LockName.{LockName}
-use Rattle.lk_word.specs.declared.spin_word.NodeName.{NodeName}
-use Rattle.lk_rows.specs.declared.parts.Frame.{Frame}
-use Rattle.lk_rows.specs.declared.parts.Pc.{Pc}
-use Rattle.lk_rows.specs.declared.setup.Verb.{Verb}
-use Rattle.lk_rows.specs.Moves.{node_of}
-use Rattle.lk_law.specs.Agree.{halts}
-use Rattle.lk_law.specs.SoundWorld.{IsSoundWorld}
-use Rattle.lk_law.specs.World.{World}
-use Rattle.lk_waits.specs.Attended.{IsAttended}
-use Rattle.lk_domain.specs.Calls.{Mark, Running, Calls, no_calls, Stacked, ArePlaced, Rests}
-use Rattle.lk_domain.specs.Calls.{AreHeld, releases}
-use Rattle.lk_domain.specs.Calls.{frames_after}
-use Rattle.lk_domain.specs.Calls.{acting, begin, is_on}
-use Rattle.lk_domain.specs.Plans.{cpus_of}
-use Rattle.lk_domain.specs.Runs.{waiter, node_name, Mirrors, SeatFits, IsReset, IsStored, IsOfPlan}
-use Rattle.lk_domain.specs.Runs.{IsIdle, IsCounted, AreTold, Runs, IsHashed, Seeks, Sought}
-use Rattle.lk_domain.specs.Views.{numbers}
-use Rattle.lk_domain.specs.Who.{Who}
-use Rattle.lk_domain.specs.Words.{node_number}
-use Rattle.lk_domain.specs.declared.part.Part.{Part}
-use Rattle.lk_domain.specs.declared.plan.Plan.{Plan}
-use Rattle.lk_domain.specs.declared.view.View.{View}
-use Rattle.lk_domain.proofs.rows.Begun.{Elsewhere}
-use Rattle.lk_domain.proofs.Manners.{held_above}
-use Rattle.lk_domain.proofs.Stacks.{frame_in-above}
+use Rattle.std.proofs.Common.{◌≡◌, ◌≢◌, ◌⊎◌, ⊎_elim, inl, inr, ℕ, zero, suc, ◌+◌, ◌<◌, ◌≤◌, List}
+use Rattle.std.proofs.Common.{◌∷◌, ◌++◌, [], length, set, get_or, Option, Some, None, Bool, true}
+use Rattle.std.proofs.Common.{false, refl, sym, ap, ◌∙◌, subst, arith, if◌then◌else◌, is_some}
+use Rattle.lk_domain.proofs.Names.{cases_eq, at_set, set_else, State, get_elem?, some}
+use Rattle.lk_domain.proofs.Names.{some-injective, some-ne-none, NodeName, LockHistory, Kind}
+use Rattle.lk_domain.proofs.Names.{LockName, Mode, Waiter, node_of, Frame, Pc, Verb, halts}
+use Rattle.lk_domain.proofs.Names.{IsSoundWorld, World, IsAttended, AreHeld, ArePlaced, Calls, Mark}
+use Rattle.lk_domain.proofs.Names.{Rests, Running, Stacked, acting, begin, frames_after, is_on}
+use Rattle.lk_domain.proofs.Names.{no_calls, releases, cpus_of, AreTold, IsStored, Mirrors, Runs}
+use Rattle.lk_domain.proofs.Names.{SeatFits, Seeks, node_name, waiter, numbers, Who, node_number}
+use Rattle.lk_domain.proofs.Names.{Part, Plan, View}
+use mathlib.Core.Option.{Option as Maybe}
+use Rattle.lk_domain.proofs.{Manners.held_above, Stacks.frame_in-above, rows.Begun.Elsewhere}
+use Rattle.lk_domain.proofs.rows.Users.{AreRight, right_marks, marks_right}
 use Rattle.lk_domain.proofs.seats.Totals.{total-same, apart}
-use Rattle.lk_domain.proofs.rows.Users.{AreRight}
-use Rattle.lk_domain.proofs.rows.Users.{right_marks, marks_right}
+use Rattle.lk_domain.specs.Runs.{IsReset, IsOfPlan, IsIdle, IsCounted, IsHashed, Sought}
 
 -- a seat whose newest call has read its count acts by that call
 pub acting_same : (mode : Mode) (c : Calls) (v : Verb) (l r : ℕ) → (acting mode c v l).runs ≡ Some r → acting mode c v l ≡ c

@@ -1,72 +1,43 @@
 -- A step that makes the row of a call keeps the machine part of the rule, where the words afterwards
 -- are those of the world after the row.
-use Rattle.std.proofs.Common.{◌≡◌, ◌⊎◌, inl, inr, ℕ, suc, ◌+◌, ◌<◌, List, ◌∷◌, ◌++◌, []}
-use Rattle.std.proofs.Common.{length, set, get_or, Option, Some, None, Bool, true, false, refl, sym}
-use Rattle.std.proofs.Common.{ap, ◌∙◌, subst, arith, eqb, eq-eqb}
-use Rattle.std.proofs.lemmas.Bool.{cases_Bool, cases_eq}
-use Rattle.std.specs.Prelude.{◌&&◌, ◌||◌, not, is_some}
-use mathlib.Core.Option.{Option as Maybe, some}
-use lib.ListN.{get_elem?}
-use Rattle.atomic_table.specs.Table.{State}
-use Rattle.lk_names.specs.declared.holder.Manner.{Manner}
-use Rattle.lk_names.specs.declared.names.Kind.{Kind}
-use Rattle.lk_names.specs.declared.names.Waiter.{Waiter}
-use Rattle.lk_names.specs.declared.names.LockName.{LockName}
-use Rattle.lk_word.specs.declared.spin_word.NodeName.{NodeName}
-use Rattle.lk_rows.specs.declared.parts.Node.{Node}
-use Rattle.lk_rows.specs.declared.parts.Frame.{Frame}
-use Rattle.lk_rows.specs.declared.parts.Pc.{Pc}
-use Rattle.lk_rows.specs.declared.parts.Pc.TheVariants.{C1, C2}
-use Rattle.lk_rows.specs.declared.setup.Verb.{Verb}
-use Rattle.lk_names.specs.Lawful.{is_local, same_socket, stays}
-use Rattle.lk_names.specs.declared.names.Format.{Format}
+use Rattle.std.proofs.Common.{◌≡◌, ◌⊎◌, inl, inr, ℕ, suc, ◌+◌, ◌<◌, List, ◌∷◌, ◌++◌, [], length}
+use Rattle.std.proofs.Common.{set, get_or, Option, Some, None, Bool, true, false, refl, sym, ap}
+use Rattle.std.proofs.Common.{◌∙◌, subst, arith, eqb, eq-eqb, ◌&&◌, ◌||◌, not, is_some}
+use Rattle.lk_domain.proofs.Names.{cases_Bool, cases_eq, State, get_elem?, some, NodeName, Manner}
+use Rattle.lk_domain.proofs.Names.{Kind, LockName, Waiter, is_node, node_of, Target, target, Frame}
+use Rattle.lk_domain.proofs.Names.{Node, Pc, C1, C2, Verb, if-true, halts, is_rw_row, choice_node}
+use Rattle.lk_domain.proofs.Names.{Course, Met, Named, RowDone, course_at, course_in, held_lock}
+use Rattle.lk_domain.proofs.Names.{met_in, IsFree, looks_along, Uses, RwFits, led, sight_in, World}
+use Rattle.lk_domain.proofs.Names.{AreFresh, AreHeld, ArePlaced, Begins, Calls, Mark, Outlook}
+use Rattle.lk_domain.proofs.Names.{Rests, Running, Stacked, StandsOn, Suits, Takes, acting, after}
+use Rattle.lk_domain.proofs.Names.{course, frame_in, frames_after, grip_of, holds_after, holds_in}
+use Rattle.lk_domain.proofs.Names.{is_inner, is_leaving, is_seeking, mark, plain, read_at, releases}
+use Rattle.lk_domain.proofs.Names.{row_at, row_of, row_on, running, sight_by, sight_of, terms_of}
+use Rattle.lk_domain.proofs.Names.{told, told_in, waits_in, AreTold, IsStored, Runs, SeatFits}
+use Rattle.lk_domain.proofs.Names.{Seeks, node_name, waiter, node_number, Plan, View}
+use mathlib.Core.Option.{Option as Maybe}
+use Rattle.lk_names.specs.{Lawful.{is_local, same_socket, stays}, declared.names.Format.Format}
 use Rattle.lk_names.specs.declared.names.Format.TheVariants.{One, Two}
-use Rattle.lk_law.specs.Premises.{IsShallow}
-use Rattle.lk_law.specs.Steps.{waiter_in}
-use Rattle.lk_domain.specs.Calls.{Outlook, is_inner, mark_of, sight_by, stays_by}
-use Rattle.lk_rows.specs.Moves.{node_of, is_node}
-use Rattle.lk_rows.specs.TopRow.{Target}
-use Rattle.lk_rows.specs.TopRow.{target}
-use Rattle.lk_law.specs.Agree.{halts}
-use Rattle.lk_law.specs.Families.{is_rw_row}
-use Rattle.lk_law.specs.Leads.{Met, Named, Course, course_at}
-use Rattle.lk_law.specs.Nodes.{IsFree, looks_along}
-use Rattle.lk_law.specs.Known.{choice_node}
-use Rattle.lk_law.proofs.common.Users.{user_found}
-use Rattle.lk_law.proofs.cna.Named.{behind_is_used}
-use Rattle.lk_law.specs.Premises.{Uses}
-use Rattle.lk_law.specs.Leads.{course_in, met_in, setting_in, held_lock, RowDone}
-use Rattle.lk_law.specs.SoundWorld.{RwFits}
-use Rattle.lk_law.specs.Steps.{row_in, led, sight_in}
-use Rattle.lk_law.specs.World.{World}
-use Rattle.lk_law.proofs.common.Puts.{if-true}
-use Rattle.lk_domain.specs.Calls.{terms_of, Mark, mark, Running, running, Calls, Stacked, ArePlaced, Rests}
-use Rattle.lk_domain.specs.Calls.{StandsOn, Takes, grip_of, after}
-use Rattle.lk_domain.specs.Calls.{AreHeld, AreFresh, Suits, is_seeking, is_leaving, releases, holds_in, waits_in}
-use Rattle.lk_domain.specs.Calls.{frames_after, holds_after, setting, course, row_of, row_on, row_at}
-use Rattle.lk_domain.specs.Calls.{plain, frame_in, told, told_in}
-use Rattle.lk_domain.specs.Calls.{acting, Begins, sight_of, count_of, read_at}
-use Rattle.lk_domain.specs.Runs.{waiter, node_name, SeatFits, IsStored}
-use Rattle.lk_domain.specs.Runs.{AreTold, Runs, IsHashed, Seeks}
-use Rattle.lk_domain.proofs.rows.Changes.{halted_row}
-use Rattle.lk_domain.proofs.rows.Halts.{begins_none}
-use Rattle.lk_domain.specs.Words.{node_number}
-use Rattle.lk_domain.specs.declared.plan.Plan.{Plan}
-use Rattle.lk_domain.specs.declared.view.View.{View}
-use Rattle.lk_domain.proofs.words.NodeWords.{none_reset}
-use Rattle.lk_domain.proofs.rows.Grips.{IsOwn, own_lock, rw_target, takes_seeks, release_ends, shared_calm, taken_over}
-use Rattle.lk_domain.proofs.rows.Grips.{taken_suits}
-use Rattle.lk_domain.proofs.words.Written.{renumbered, same_numbers}
+use Rattle.lk_law.proofs.{cna.Named.behind_is_used, common.Users.user_found}
+use Rattle.lk_law.specs.{Leads.setting_in, Premises.IsShallow, Steps.{waiter_in, row_in}}
 use Rattle.lk_domain.proofs.Manners.{after_held, after_fresh}
-use Rattle.lk_domain.proofs.Stacks.{frame_in-above, frame_in-top}
-use Rattle.lk_domain.proofs.rows.Went as went
-use Rattle.lk_domain.proofs.rows.Went.{Went, led_ctx, led_index}
-use Rattle.lk_domain.proofs.rows.Users.{acting_frame, acting_told, after_cases, below_it, Grows, AreRight}
-use Rattle.lk_domain.proofs.rows.Users.{KeepsMarks, marked_after, told_after, IsTrue, newest_told}
+use Rattle.lk_domain.proofs.{Stacks.{frame_in-above, frame_in-top}, rows.Changes.halted_row}
+use Rattle.lk_domain.proofs.rows.Grips.{IsOwn, own_lock, rw_target, takes_seeks, release_ends}
+use Rattle.lk_domain.proofs.rows.Grips.{shared_calm, taken_over, taken_suits}
+use Rattle.lk_domain.proofs.rows.Halts.{begins_none}
+use Rattle.lk_domain.proofs.rows.Kept.{acting_same, counted_after, unlooked, acting_halted}
+use Rattle.lk_domain.proofs.rows.Kept.{after_stacked, after_few, fewer, after_placed, after_rests}
+use Rattle.lk_domain.proofs.rows.Kept.{KeepsComing, Halting, KeepsCounts, KeepsTold}
 use Rattle.lk_domain.proofs.rows.Poised.{RestsBelow, Poised, poised}
-use Rattle.lk_domain.proofs.rows.Sights.{IsSeen, Sees, SeesWhom, SeesSame, same_course, unseen_cases}
+use Rattle.lk_domain.proofs.rows.Sights.{IsSeen, Sees, SeesWhom, SeesSame, same_course}
+use Rattle.lk_domain.proofs.rows.Sights.{unseen_cases}
+use Rattle.lk_domain.proofs.rows.Users.{acting_frame, acting_told, after_cases, below_it, Grows}
+use Rattle.lk_domain.proofs.rows.Users.{AreRight, KeepsMarks, marked_after, told_after, IsTrue}
+use Rattle.lk_domain.proofs.{rows.Users.newest_told, rows.Went.{Went, led_ctx, led_index}}
+use Rattle.lk_domain.proofs.{words.NodeWords.none_reset, words.Written.{renumbered, same_numbers}}
+use Rattle.lk_domain.specs.{Calls.{mark_of, stays_by, setting, count_of}, Runs.IsHashed}
+use Rattle.lk_domain.proofs.rows.Went as went
 use Rattle.lk_domain.proofs.rows.Kept as rule
-use Rattle.lk_domain.proofs.rows.Kept.{acting_same, counted_after, unlooked, acting_halted, after_stacked, after_few, fewer, after_placed, after_rests, KeepsComing, Halting, KeepsCounts, KeepsTold}
 
 module _ (k : Plan) {S : Type 0} (s : State S View) (st : Runs k s) (id : ℕ) (v : View)
     (me : get_elem? s.views id ≡ some v) (p : ℕ) (is : v.who.number ≡ Some p) where

@@ -1,29 +1,15 @@
 -- A processor whose newest call is about to make a row.
-use Rattle.std.proofs.Common.{◌≡◌, ℕ, ◌<◌, ◌≤◌, List, [], ◌∷◌}
-use Rattle.std.proofs.Common.{length, Some, true, false, refl, sym}
+use Rattle.std.proofs.Common.{◌≡◌, ℕ, ◌<◌, ◌≤◌, List, [], ◌∷◌, length, Some, true, false, refl, sym}
 use Rattle.std.proofs.Common.{ap, ◌∙◌, subst, arith}
-use Rattle.lk_names.specs.History.{LockHistory}
-use Rattle.lk_names.specs.declared.names.Kind.{Kind}
-use Rattle.lk_names.specs.declared.names.Mode.{Mode}
-use Rattle.lk_names.specs.declared.names.Mode.TheVariants.{Virt, Native, Cna, Pv}
-use Rattle.lk_names.specs.declared.names.LockName.{LockName}
-use Rattle.lk_rows.specs.declared.setup.Verb.{Verb}
-use Rattle.lk_rows.specs.declared.setup.Verb.TheVariants.{Lock, Try, Unlock, Read, TryRead}
-use Rattle.lk_rows.specs.declared.setup.Verb.TheVariants.{RUnlock, Write, TryWrite, WUnlock}
-use Rattle.lk_rows.specs.Moves.{first_place}
-use Rattle.lk_law.specs.Agree.{halts}
-use Rattle.lk_law.specs.SoundWorld.{IsSoundWorld}
-use Rattle.lk_law.specs.World.{World}
-use Rattle.lk_law.proofs.common.Puts.{if_cases}
-use Rattle.lk_domain.specs.Calls.{Running, running, Hold, Calls, Stacked, ArePlaced, Rests}
-use Rattle.lk_domain.specs.Calls.{MayBegin, moved_to, lock_name, begun}
-use Rattle.lk_domain.specs.Calls.{AreHeld, AreFresh, is_seeking}
-use Rattle.lk_domain.specs.Calls.{acting, begin, is_on, Begins, holds_begun}
-use Rattle.lk_domain.specs.Plans.{kind_at}
-use Rattle.lk_domain.specs.Runs.{SeatFits}
-use Rattle.lk_domain.specs.declared.plan.Plan.{Plan}
-use Rattle.lk_domain.proofs.rows.Begun.{Acted, begins}
+use Rattle.lk_domain.proofs.Names.{LockHistory, Kind, LockName, Mode, Cna, Native, Pv, Virt}
+use Rattle.lk_domain.proofs.Names.{first_place, Verb, Lock, RUnlock, Read, Try, TryRead, TryWrite}
+use Rattle.lk_domain.proofs.Names.{Unlock, WUnlock, Write, if_cases, halts, IsSoundWorld, World}
+use Rattle.lk_domain.proofs.Names.{AreFresh, AreHeld, ArePlaced, Begins, Calls, Hold, MayBegin}
+use Rattle.lk_domain.proofs.Names.{Rests, Running, Stacked, acting, begin, begun, is_on, is_seeking}
+use Rattle.lk_domain.proofs.Names.{lock_name, moved_to, running, kind_at, SeatFits, Plan}
 use Rattle.lk_domain.proofs.Manners.{moved_held, moved_names, fresh_kept}
+use Rattle.lk_domain.proofs.rows.Begun.{Acted, begins}
+use Rattle.lk_domain.specs.Calls.{holds_begun}
 
 -- the calls below the newest, which is about to make a row
 abbrev pub RestsBelow : List Running → Type 0

@@ -1,24 +1,17 @@
 -- A seat that sees enough knows where its row leads.
-use Rattle.std.proofs.Common.{◌≡◌, ◌≢◌, ◌⊎◌, inl, inr, ℕ}
-use Rattle.std.proofs.Common.{Option, Some, None, true, false, refl}
-use Rattle.std.proofs.Common.{arith}
-use Rattle.std.proofs.lemmas.Bool.{cases_Bool}
-use Rattle.std.specs.Prelude.{is_some}
-use Rattle.lk_word.specs.declared.spin_word.NodeName.{NodeName}
-use Rattle.lk_rows.specs.declared.parts.Frame.{Frame}
-use Rattle.lk_rows.specs.declared.parts.Pc.{Pc}
-use Rattle.lk_rows.specs.declared.parts.Pc.TheVariants.{C1, C2, C4, C5, C7, C9}
+use Rattle.std.proofs.Common.{◌≡◌, ◌≢◌, ◌⊎◌, inl, inr, ℕ, Option, Some, None, true, false, refl}
+use Rattle.std.proofs.Common.{arith, is_some}
+use Rattle.lk_domain.proofs.Names.{cases_Bool, NodeName, ChoiceFlag, ChoiceNext, ChoiceWord, FlagOf}
+use Rattle.lk_domain.proofs.Names.{NextOf, PvFlag, PvNext, PvWord, QueueWord, RunsOf, RwWord}
+use Rattle.lk_domain.proofs.Names.{SecondTailOf, SpinWord, Target, target, Frame, Pc, C1, C2, C5}
+use Rattle.lk_domain.proofs.Names.{C7, Sight, pv_row, rw_row, is_rw_row, Flagged, Met, Named}
+use Rattle.lk_domain.proofs.Names.{Number, Shared, Word, course_at}
+use Rattle.lk_rows.specs.TopRow.{Queued, StateOf, HashEntry, Halted, KickOf}
+use Rattle.lk_rows.specs.declared.parts.Pc.TheVariants.{C4, C9}
+use Rattle.lk_rows.specs.rows.Cna.{search_row, runs_row, after_first, after_more}
+use Rattle.lk_rows.specs.{rows.Pv.state_row, rows.Queue.{queue_row, entry_row, next_row}}
 use Rattle.lk_rows.specs.rows.Spin.{spin_row}
-use Rattle.lk_rows.specs.rows.Queue.{queue_row, entry_row, next_row}
-use Rattle.lk_rows.specs.rows.Rw.{rw_row}
-use Rattle.lk_rows.specs.rows.Cna.{Sight, search_row, runs_row, after_first, after_more}
-use Rattle.lk_rows.specs.TopRow.{Target, SpinWord, QueueWord, Queued, FlagOf, NextOf, RwWord}
-use Rattle.lk_rows.specs.TopRow.{ChoiceWord, ChoiceFlag, ChoiceNext, SecondTailOf, RunsOf, target}
-use Rattle.lk_rows.specs.TopRow.{PvWord, PvFlag, PvNext, StateOf, HashEntry, Halted, KickOf}
-use Rattle.lk_rows.specs.rows.Pv.{pv_row, state_row}
-use Rattle.lk_law.specs.Families.{is_rw_row}
-use Rattle.lk_law.specs.Leads.{Met, Word, Shared, Number, Flagged, Named, Stated, Marked, Setting, course_of}
-use Rattle.lk_law.specs.Leads.{course_at}
+use Rattle.lk_law.specs.Leads.{Stated, Marked, Setting, course_of}
 use Rattle.lk_domain.proofs.rows.Grips.{IsOwn}
 
 -- every target is one whose course a seat can compute

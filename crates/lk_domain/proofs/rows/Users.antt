@@ -1,38 +1,22 @@
 -- Who uses nodes, before and after a step; and what of links and of what fronts were told stays.
-use Rattle.std.proofs.Common.{◌≡◌, ◌⊎◌, inl, inr, ℕ, List, [], ◌∷◌, ◌++◌, length, Option, Some, None}
-use Rattle.std.proofs.Common.{Bool, true, false, eqb, eqb-true, ne_eqb, refl, sym, ap, ◌∙◌, subst, arith}
-use Rattle.std.proofs.lemmas.Bool.{cases_Bool}
-use Rattle.std.specs.Prelude.{if◌then◌else◌, is_some}
-use Rattle.lk_names.specs.History.{LockHistory}
-use Rattle.lk_names.specs.declared.names.LockName.{LockName}
-use Rattle.lk_names.specs.declared.names.Mode.{Mode}
-use Rattle.lk_names.specs.declared.names.Waiter.{Waiter}
-use Rattle.lk_word.specs.declared.spin_word.NodeName.{NodeName}
-use Rattle.lk_rows.specs.declared.parts.Frame.{Frame}
-use Rattle.lk_rows.specs.declared.parts.Pc.{Pc}
-use Rattle.lk_rows.specs.declared.parts.Pc.TheVariants.{C1, C2, C3, C7}
+use Rattle.std.proofs.Common.{◌≡◌, ◌⊎◌, inl, inr, ℕ, List, [], ◌∷◌, ◌++◌, length, Option, Some}
+use Rattle.std.proofs.Common.{None, Bool, true, false, eqb, eqb-true, ne_eqb, refl, sym, ap, ◌∙◌}
+use Rattle.std.proofs.Common.{subst, arith, if◌then◌else◌, is_some}
+use Rattle.lk_domain.proofs.Names.{cases_Bool, NodeName, LockHistory, LockName, Mode, Waiter}
+use Rattle.lk_domain.proofs.Names.{is_node, node_of, Lead, Leaves, Yields, target, Frame, Pc, C1}
+use Rattle.lk_domain.proofs.Names.{C2, C3, C7, Verb, Sight, search_on, if-false, if-true, halts}
+use Rattle.lk_domain.proofs.Names.{Linked, Met, Named, course_in, enters, IsFree, looks_along, Uses}
+use Rattle.lk_domain.proofs.Names.{IsSoundSpinWorld, led, sight_in, World, Calls, Mark, Running}
+use Rattle.lk_domain.proofs.Names.{Stacked, acting, begin, begun, frame_in, frames_after, is_inner}
+use Rattle.lk_domain.proofs.Names.{is_on, mark, plain, told, told_in, AreTold, waiter}
+use Rattle.lk_rows.specs.Row.{Goes, Enters, Change, with_change, changed_all, Prev, Second, Y, Left}
+use Rattle.lk_rows.specs.Row.{A, B, K, T, Reason, Tailed, HashedIs, TargetIs}
 use Rattle.lk_rows.specs.declared.parts.Why.{Why}
-use Rattle.lk_rows.specs.declared.parts.Why.TheVariants as why
-use Rattle.lk_rows.specs.declared.setup.Verb.{Verb}
-use Rattle.lk_rows.specs.Moves.{is_node, node_of}
-use Rattle.lk_rows.specs.Row.{Lead, Goes, Enters, Leaves, Yields, Change, with_change, changed_all, Prev, Second}
-use Rattle.lk_rows.specs.Row.{Y, Left, A, B, K, T, Reason, Tailed, HashedIs, TargetIs}
-use Rattle.lk_rows.specs.rows.Cna.{Sight, search_on}
-use Rattle.lk_rows.specs.TopRow.{target}
-use Rattle.lk_law.specs.Agree.{halts}
-use Rattle.lk_law.specs.Leads.{Met, Linked, Named, course_in, enters}
-use Rattle.lk_law.specs.Nodes.{IsFree, looks_along, will_link}
-use Rattle.lk_law.specs.Premises.{Uses}
-use Rattle.lk_law.specs.SpinWorld.{IsSoundSpinWorld}
-use Rattle.lk_law.specs.Steps.{led, sight_in}
-use Rattle.lk_law.specs.World.{World}
-use Rattle.lk_law.proofs.common.Puts.{if-true, if-false}
-use Rattle.lk_law.proofs.common.Users.{node_is_ones}
-use Rattle.lk_law.proofs.running.Links.{linked_is_used, passed_is_used}
-use Rattle.lk_domain.specs.Calls.{Mark, mark, Running, Calls, Stacked, frame_in, told, told_by, told_from}
-use Rattle.lk_domain.specs.Calls.{told_in, plain, mark_of, frames_after, acting, begin, begun, is_on, is_inner}
-use Rattle.lk_domain.specs.Runs.{waiter, AreMarked, AreTold}
+use Rattle.lk_law.proofs.{common.Users.node_is_ones, running.Links.{linked_is_used, passed_is_used}}
+use Rattle.lk_law.specs.Nodes.{will_link}
 use Rattle.lk_domain.proofs.Stacks.{frame_in-above}
+use Rattle.lk_domain.specs.{Calls.{told_by, told_from, mark_of}, Runs.AreMarked}
+use Rattle.lk_rows.specs.declared.parts.Why.TheVariants as why
 
 some_is : {A : Type 0} {a b : A} → Some a ≡ Some b → a ≡ b
 some_is {A} {a} {b} e = ap (λ (o : Option A). or_a o) e

@@ -1,48 +1,29 @@
 -- A call makes its row, and ends where the row ends it: what becomes of the world for which words and
 -- seats stand.
-use Rattle.std.proofs.Common.{◌≡◌, inr, ℕ, suc, ◌+◌, ◌≤◌, List, [], ◌∷◌, length}
-use Rattle.std.proofs.Common.{Option, Some, None, Bool, true, false, eqb, eqb-true, refl, sym}
-use Rattle.std.proofs.Common.{ap, ◌∙◌, subst, arith}
-use Rattle.std.specs.Prelude.{if◌then◌else◌, ◌&&◌, is_some}
-use Rattle.lk_names.specs.Names.{same_lock, same_waiter}
-use Rattle.lk_names.specs.History.{LockHistory}
-use Rattle.lk_names.specs.Lawful.{Rules}
-use Rattle.lk_names.specs.declared.holder.Manner.{Manner}
-use Rattle.lk_names.specs.declared.events.What.{What}
+use Rattle.std.proofs.Common.{◌≡◌, inr, ℕ, suc, ◌+◌, ◌≤◌, List, [], ◌∷◌, length, Option, Some, None}
+use Rattle.std.proofs.Common.{Bool, true, false, eqb, eqb-true, refl, sym, ap, ◌∙◌, subst, arith}
+use Rattle.std.proofs.Common.{if◌then◌else◌, ◌&&◌, is_some}
+use Rattle.lk_domain.proofs.Names.{LockHistory, same_lock, Manner, LockName, Waiter, node_of, Lead}
+use Rattle.lk_domain.proofs.Names.{Leaves, Yields, RwWord, Target, target, Frame, Pc, Verb}
+use Rattle.lk_domain.proofs.Names.{if-false, if-true, same_lock-true, Course, RowDone, course_in}
+use Rattle.lk_domain.proofs.Names.{held_lock, phase_if, phase_of, IsSoundWorld, led, World}
+use Rattle.lk_domain.proofs.Names.{attended_stays, IsAttended, Calls, Frees, Grip, Mark, Running}
+use Rattle.lk_domain.proofs.Names.{Stacked, Takes, Unchanged, after, frame_in, frames_after}
+use Rattle.lk_domain.proofs.Names.{grip_led, grip_of, grip_told, held_in, holds_after, running}
+use Rattle.lk_domain.proofs.Names.{Mirrors, waiter}
+use Rattle.lk_names.specs.{Lawful.Rules, Names.same_waiter, declared.events.What.What}
 use Rattle.lk_names.specs.declared.events.What.TheVariants.{RTake, RRelease, WTake, WRelease}
-use Rattle.lk_names.specs.declared.names.Waiter.{Waiter}
-use Rattle.lk_names.specs.declared.names.LockName.{LockName}
-use Rattle.lk_rows.specs.declared.parts.Frame.{Frame}
-use Rattle.lk_rows.specs.declared.parts.Pc.{Pc}
-use Rattle.lk_rows.specs.declared.setup.Verb.{Verb}
-use Rattle.lk_rows.specs.Moves.{node_of}
-use Rattle.lk_rows.specs.Row.{Lead, Goes, Granted, Freed, Leaves}
-use Rattle.lk_rows.specs.Row.{Yields, Tell, Says, Change, with_change, changed_all, Prev, Second, Y}
-use Rattle.lk_rows.specs.Row.{Left, A, B, K, T, Reason, Tailed, HashedIs, TargetIs}
-use Rattle.lk_rows.specs.TopRow.{Target, RwWord, target}
-use Rattle.lk_law.specs.Leads.{Course, course_in, held_lock, way_after, RowDone}
-use Rattle.lk_law.specs.Phase.{has_node}
-use Rattle.lk_law.specs.Phase.Phase.{Idle}
-use Rattle.lk_law.specs.Places.{phase_of, phase_if}
+use Rattle.lk_rows.specs.Row.{Goes, Granted, Freed, Tell, Says, Change, with_change, changed_all}
+use Rattle.lk_rows.specs.Row.{Prev, Second, Y, Left, A, B, K, T, Reason, Tailed, HashedIs, TargetIs}
+use Rattle.lk_law.proofs.{common.EveryRow.every_row_keeps, common.Puts.same_waiter-else}
+use Rattle.lk_law.proofs.{common.Sames.same_waiter-self, running.Leads.row_is_done}
+use Rattle.lk_law.proofs.{running.Tells.lead_goes_on, rw.Begins.end_keeps}
+use Rattle.lk_law.specs.{Leads.way_after, Phase.has_node, Phase.Phase.Idle}
 use Rattle.lk_law.specs.Premises.{IsNewest, IsShallow}
-use Rattle.lk_law.specs.SoundWorld.{IsSoundWorld}
-use Rattle.lk_law.specs.Steps.{put_frame, row_in, led, way_led, way_told, told_event, told_on}
-use Rattle.lk_law.specs.World.{World}
-use Rattle.lk_law.proofs.common.EveryRow.{every_row_keeps}
-use Rattle.lk_law.proofs.common.Puts.{if-true, if-false, same_waiter-else}
-use Rattle.lk_law.proofs.common.Sames.{same_lock-true, same_waiter-self}
-use Rattle.lk_law.proofs.rw.Begins.{end_keeps}
-use Rattle.lk_law.proofs.running.Leads.{row_is_done}
-use Rattle.lk_law.proofs.running.Tells.{lead_goes_on}
-use Rattle.lk_waits.specs.Attended.{IsAttended}
-use Rattle.lk_waits.proofs.Attended.{attended_stays, row_keeps_attended}
-use Rattle.lk_waits.proofs.Quiet.{placeless_quiet}
-use Rattle.lk_domain.specs.Calls.{Mark, Running, running, Calls, Stacked, frame_in, held_in}
-use Rattle.lk_domain.specs.Calls.{Grip, Unchanged, Takes, Frees, grip_of, grip_led, grip_told, after}
-use Rattle.lk_domain.specs.Calls.{holds_after, frames_after}
-use Rattle.lk_domain.specs.Runs.{waiter, Mirrors}
-use Rattle.lk_domain.proofs.rows.Begun.{Elsewhere, same_at, else_at}
+use Rattle.lk_law.specs.Steps.{put_frame, row_in, way_led, way_told, told_event, told_on}
+use Rattle.lk_waits.proofs.{Attended.row_keeps_attended, Quiet.placeless_quiet}
 use Rattle.lk_domain.proofs.Stacks.{frame_in-above, frame_in-top, freed, and_parts}
+use Rattle.lk_domain.proofs.rows.Begun.{Elsewhere, same_at, else_at}
 
 if_if : {A : Type 0} (b : Bool) (x y z : A)
     → (if b then x else (if b then y else z)) ≡ (if b then x else z)

@@ -1,32 +1,17 @@
 -- A step that makes the row of a call and writes the word that the row is on: the others stay as they are.
 use Rattle.std.proofs.Common.{◌≡◌, ◌≢◌, inl, ℕ, List, set, Some, Bool, false, sym, ap, ◌∙◌}
-use mathlib.Core.Option.{Option as Maybe, some}
-use lib.ListN.{get_elem?}
-use Rattle.atomic_table.specs.Table.{State}
-use Rattle.lk_names.specs.declared.names.LockName.{LockName}
-use Rattle.lk_names.specs.declared.names.Waiter.{Waiter}
-use Rattle.lk_word.specs.declared.spin_word.NodeName.{NodeName}
-use Rattle.lk_rows.specs.declared.parts.Frame.{Frame}
-use Rattle.lk_rows.specs.declared.parts.Node.{Node}
-use Rattle.lk_rows.specs.declared.parts.Pc.{Pc}
-use Rattle.lk_rows.specs.declared.setup.Verb.{Verb}
-use Rattle.lk_rows.specs.TopRow.{Target, target}
-use Rattle.lk_law.specs.Leads.{Met, RowDone, met_in, stored_in, enters}
-use Rattle.lk_law.specs.World.{World}
-use Rattle.lk_domain.specs.Calls.{terms_of, StandsOn, row_of, acting, Begins, plain}
-use Rattle.lk_domain.specs.Runs.{waiter, node_name, Runs}
-use Rattle.lk_domain.specs.Words.{Place, OfNode, place_at, IsPlace, number_of, with_mark}
-use Rattle.lk_domain.specs.declared.part.Part.{Part}
-use Rattle.lk_domain.specs.declared.part.Part.TheVariants as part
-use Rattle.lk_domain.specs.declared.plan.Plan.{Plan}
-use Rattle.lk_domain.specs.declared.view.View.{View}
+use Rattle.lk_domain.proofs.Names.{State, get_elem?, some, NodeName, LockName, Waiter, Target}
+use Rattle.lk_domain.proofs.Names.{target, Frame, Node, Pc, Verb, Met, RowDone, enters, met_in}
+use Rattle.lk_domain.proofs.Names.{stored_in, World, Begins, StandsOn, acting, plain, row_of}
+use Rattle.lk_domain.proofs.Names.{terms_of, Runs, node_name, waiter, IsPlace, OfNode, Place}
+use Rattle.lk_domain.proofs.Names.{number_of, place_at, with_mark, Part, Plan, View}
+use mathlib.Core.Option.{Option as Maybe}
 use Rattle.lk_domain.proofs.rows.Changes.{Changes, IsAt, row_changes}
-use Rattle.lk_domain.proofs.rows.Kept.{Halting, halting_same, counted_after}
-use Rattle.lk_domain.proofs.rows.Lands as lands
-use Rattle.lk_domain.proofs.rows.Poised.{Poised}
-use Rattle.lk_domain.proofs.rows.Sights.{IsSeen}
-use Rattle.lk_domain.proofs.rows.Users.{IsTrue, bare_me, kept_marks}
+use Rattle.lk_domain.proofs.{rows.Kept.{Halting, halting_same, counted_after}, rows.Poised.Poised}
+use Rattle.lk_domain.proofs.{rows.Sights.IsSeen, rows.Users.{IsTrue, bare_me, kept_marks}}
 use Rattle.lk_domain.proofs.words.Written.{written, roll_stays, same_numbers}
+use Rattle.lk_domain.specs.declared.part.Part.TheVariants as part
+use Rattle.lk_domain.proofs.rows.Lands as lands
 
 module _ (k : Plan) {S : Type 0} (s : State S View) (st : Runs k s) (id : ℕ) (v : View)
     (me : get_elem? s.views id ≡ some v) (p : ℕ) (is : v.who.number ≡ Some p) (verb : Verb)

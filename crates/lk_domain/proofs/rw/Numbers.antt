@@ -1,27 +1,18 @@
 -- What the steps on the word of a reader-writer lock do to its number.
-use Rattle.std.proofs.Common.{◌≡◌, ◌⊎◌, inl, inr, ℕ, ◌+◌, ◌-◌, ◌*◌, ◌%◌, ◌^◌, ◌<◌}
-use Rattle.std.proofs.Common.{Bool, true, false, eqb, eq-eqb, ne_eqb, refl, sym, ap, ◌∙◌, arith}
-use Rattle.std.proofs.lemmas.Bool.{cases_Bool, cases_eq}
-use Rattle.std.proofs.lemmas.Nat.{or_block}
-use Rattle.std.specs.Int.Bits.{bit_or, or_zero_r}
-use Rattle.std.specs.Prelude.{if◌then◌else◌, unwrap_or, ◌&&◌, not}
-use prog.Atomic.{either}
-use Rattle.lk_names.specs.declared.names.Mode.{Mode}
-use Rattle.lk_word.specs.declared.rw_word.RwFields.{RwFields}
-use Rattle.lk_word.specs.RwWord.{packed_rw, IsPackableRw}
-use Rattle.lk_rows.specs.declared.parts.Frame.{Frame}
-use Rattle.lk_rows.specs.declared.parts.Pc.{Pc}
-use Rattle.lk_rows.specs.declared.parts.Pc.TheVariants.{R1, R2, R3, R4, R5, Wr1, Wr2, Wr3, Wr4}
-use Rattle.lk_rows.specs.declared.parts.Pc.TheVariants.{Wr5, Wr6, Y1, Y2, Y3, Y4, Y5, Z1, Z2}
-use Rattle.lk_rows.specs.declared.setup.Verb.{Verb}
-use Rattle.lk_rows.specs.declared.setup.Verb.TheVariants.{Read, TryRead, RUnlock, Write, TryWrite}
-use Rattle.lk_rows.specs.declared.setup.Verb.TheVariants.{WUnlock}
-use Rattle.lk_rows.specs.rows.Rw.{rw_row, one_more, one_less, written_word, is_open, is_empty, is_cleared}
-use Rattle.lk_law.specs.Families.{is_rw_row}
-use Rattle.lk_law.specs.RwKnown.{RwKnown}
-use Rattle.lk_domain.specs.RwUses.{frees_by_use}
+use Rattle.std.proofs.Common.{◌≡◌, ◌⊎◌, inl, inr, ℕ, ◌+◌, ◌-◌, ◌*◌, ◌%◌, ◌^◌, ◌<◌, Bool, true}
+use Rattle.std.proofs.Common.{false, eqb, eq-eqb, ne_eqb, refl, sym, ap, ◌∙◌, arith, if◌then◌else◌}
+use Rattle.std.proofs.Common.{◌&&◌, not}
+use Rattle.std.specs.Prelude.{unwrap_or}
+use Rattle.lk_domain.proofs.Names.{cases_Bool, cases_eq, or_block, bit_or, or_zero_r, either}
+use Rattle.lk_domain.proofs.Names.{IsPackableRw, RwFields, Mode, Frame, Pc, R1, R2, R3, R4, R5, Wr1}
+use Rattle.lk_domain.proofs.Names.{Wr2, Wr3, Wr4, Wr5, Wr6, Y1, Y2, Y3, Y4, Y5, Z1, Z2, Verb}
+use Rattle.lk_domain.proofs.Names.{RUnlock, Read, TryRead, TryWrite, WUnlock, Write, is_cleared}
+use Rattle.lk_domain.proofs.Names.{is_empty, is_open, rw_row, is_rw_row, RwKnown, awaits_by}
+use Rattle.lk_domain.proofs.Names.{follows_by, joins_by, leaves_by, quits_by, seizes_by, watches_by}
+use Rattle.lk_word.specs.RwWord.{packed_rw}
+use Rattle.lk_rows.specs.rows.Rw.{one_more, one_less, written_word}
+use Rattle.lk_domain.specs.{RwRows.{has_no_writer, lets_in}, RwUses.frees_by_use}
 use Rattle.lk_domain.specs.declared.locks.rw_moves.RwUse.TheVariants.{Quits}
-use Rattle.lk_domain.specs.RwRows.{has_no_writer, lets_in, watches_by, joins_by, quits_by, seizes_by, awaits_by, follows_by, leaves_by}
 
 -- they are rows of readers and writers
 

@@ -1,59 +1,29 @@
 -- The steps on the word of a reader-writer lock.
-use Rattle.std.proofs.Common.{◌≡◌, ◌⊎◌, inl, inr, ℕ, ◌<◌, ◌≤◌, List, length, set}
-use Rattle.std.proofs.Common.{get_or, Option, Some, None, true, false, refl, sym, ap, ◌∙◌, subst}
-use Rattle.std.proofs.Common.{arith, eqb, eq-eqb}
-use Rattle.std.proofs.lemmas.Bool.{cases_lt, cases_eq}
-use Rattle.std.specs.Prelude.{unwrap_or, if◌then◌else◌}
-use mathlib.Core.Option.{Option as Maybe, some}
-use lib.ListN.{get_elem?}
-use Rattle.atomic_table.specs.Table.{State}
-use Rattle.lk_names.specs.declared.holder.Manner.TheVariants.{Reads}
-use Rattle.lk_names.specs.declared.names.Kind.{Kind}
-use Rattle.lk_names.specs.declared.names.Kind.TheVariants.{Rw}
-use Rattle.lk_names.specs.declared.names.Mode.{Mode}
-use Rattle.lk_names.specs.declared.names.Waiter.{Waiter}
-use Rattle.lk_names.specs.declared.names.LockName.{LockName}
-use Rattle.lk_word.specs.declared.rw_word.RwFields.{RwFields}
-use Rattle.lk_word.specs.RwWord.{packed_rw, IsPackableRw}
-use Rattle.lk_word.specs.SpinWord.{packed}
-use Rattle.lk_rows.specs.Moves.{rw_name, wait_name}
-use Rattle.lk_rows.specs.declared.parts.Frame.{Frame}
-use Rattle.lk_rows.specs.declared.parts.Pc.{Pc}
-use Rattle.lk_rows.specs.declared.parts.Pc.TheVariants.{C1, Z1, C2}
-use Rattle.lk_rows.specs.declared.setup.Verb.{Verb}
-use Rattle.lk_rows.specs.rows.Rw.{rw_row}
-use Rattle.lk_rows.specs.TopRow.{Target, target}
-use Rattle.lk_law.specs.Families.{is_rw_row}
-use Rattle.lk_law.specs.Leads.{Shared, met_in, stored_in, enters}
-use Rattle.lk_law.specs.RwKnown.{RwKnown}
-use Rattle.lk_law.specs.RwPhase.{is_counted, is_inner}
-use Rattle.lk_law.specs.RwPhase.RwPhase.{Unreads}
-use Rattle.lk_law.specs.Snapshot.{spins}
-use Rattle.lk_law.specs.SoundWorld.{is_rw, rw_phases, rw_helds, rw_phase_on, rw_phase_if, rw_phase_at}
+use Rattle.std.proofs.Common.{◌≡◌, ◌⊎◌, inl, inr, ℕ, ◌<◌, ◌≤◌, List, length, set, get_or, Option}
+use Rattle.std.proofs.Common.{Some, None, true, false, refl, sym, ap, ◌∙◌, subst, arith, eqb}
+use Rattle.std.proofs.Common.{eq-eqb, if◌then◌else◌}
+use Rattle.std.proofs.lemmas.Bool.{cases_lt}
+use Rattle.std.specs.Prelude.{unwrap_or}
+use Rattle.lk_domain.proofs.Names.{cases_eq, State, get_elem?, some, IsPackableRw, RwFields, Reads}
+use Rattle.lk_domain.proofs.Names.{Kind, Rw, LockName, Mode, Waiter, rw_name, wait_name, Target}
+use Rattle.lk_domain.proofs.Names.{target, Frame, Pc, C1, C2, Z1, Verb, rw_row, if-true, is_rw_row}
+use Rattle.lk_domain.proofs.Names.{Shared, enters, met_in, stored_in, looks_along, RwKnown, is_rw}
+use Rattle.lk_domain.proofs.Names.{World, Begins, Calls, StandsOn, acting, held_in, lock_name}
+use Rattle.lk_domain.proofs.Names.{row_of, terms_of, sole_count, cpus_of, kind_at, layout_in}
+use Rattle.lk_domain.proofs.Names.{locks_of, Runs, waiter, OfLock, lock_at, number_of, Plan, View}
+use mathlib.Core.Option.{Option as Maybe}
+use Rattle.lk_word.specs.{RwWord.packed_rw, SpinWord.packed}
+use Rattle.lk_law.proofs.{rw.Few.each_few, rw.Knows.rw_row_knows, rw.Phases.rw_here}
+use Rattle.lk_law.specs.{RwPhase.{is_counted, is_inner}, RwPhase.RwPhase.Unreads, Snapshot.spins}
+use Rattle.lk_law.specs.SoundWorld.{rw_phases, rw_helds, rw_phase_on, rw_phase_if, rw_phase_at}
 use Rattle.lk_law.specs.Steps.{stores_rw}
-use Rattle.lk_law.specs.World.{World}
-use Rattle.lk_law.proofs.common.Puts.{if-true}
-use Rattle.lk_law.proofs.rw.Few.{each_few}
-use Rattle.lk_law.proofs.rw.Knows.{rw_row_knows}
-use Rattle.lk_law.proofs.rw.Phases.{rw_here}
-use Rattle.lk_domain.specs.Calls.{terms_of, Calls, StandsOn, row_of, acting, Begins, lock_name, held_in}
-use Rattle.lk_domain.specs.Keeps.{sole_count}
-use Rattle.lk_domain.specs.Plans.{cpus_of, kind_at, layout_in, locks_of}
-use Rattle.lk_domain.specs.Runs.{waiter, IsIdle, Runs}
-use Rattle.lk_domain.specs.Words.{OfLock, number_of, lock_at}
-use Rattle.lk_domain.specs.declared.plan.Plan.{Plan}
-use Rattle.lk_domain.specs.declared.view.View.{View}
-use Rattle.lk_domain.proofs.rows.Grips.{rw_target, shared_bare}
-use Rattle.lk_domain.proofs.rows.Lands as lands
-use Rattle.lk_domain.proofs.rows.Sights.{IsUnseen, IsSeen, Sees}
-use Rattle.lk_domain.proofs.rows.Poised.{Poised}
-use Rattle.lk_domain.proofs.rows.Changes.{IsAt}
-use Rattle.lk_domain.proofs.rows.Writes.{row_step}
-use Rattle.lk_domain.proofs.Manners.{held_above, held_cases}
-use Rattle.lk_domain.proofs.Stacks.{frame_in-above}
+use Rattle.lk_domain.proofs.{Manners.{held_above, held_cases}, Stacks.frame_in-above}
+use Rattle.lk_domain.proofs.{journals.Held.reads_sole, rows.Changes.IsAt}
+use Rattle.lk_domain.proofs.{rows.Grips.{rw_target, shared_bare}, rows.Poised.Poised}
+use Rattle.lk_domain.proofs.{rows.Sights.{IsUnseen, IsSeen, Sees}, rows.Writes.row_step}
 use Rattle.lk_domain.proofs.seats.Totals.{drawn, nobodys}
-use Rattle.lk_domain.proofs.journals.Held.{reads_sole}
-use Rattle.lk_law.specs.Nodes.{looks_along}
+use Rattle.lk_domain.specs.Runs.{IsIdle}
+use Rattle.lk_domain.proofs.rows.Lands as lands
 
 stored_here : (m : World) (l : ℕ) (o : Option RwFields) → (stores_rw m l o).rw l ≡ unwrap_or o (m.rw l)
 stored_here m l None = refl

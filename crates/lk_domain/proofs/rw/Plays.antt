@@ -1,48 +1,24 @@
 -- What the step calls on the words of reader-writer locks ask.
-use Rattle.std.proofs.Common.{◌≡◌, ◌⊎◌, ℕ, ◌<◌, get_or, set}
-use Rattle.std.proofs.Common.{None, Bool, true, false, inl, inr, refl, sym, ap, ◌∙◌}
-use Rattle.std.proofs.Common.{subst, arith}
-use mathlib.Core.Option.{some}
-use lib.ListN.{get_elem?}
-use Rattle.atomic_table.specs.Table.{State, Me, Step, keeps, Allows}
-use Rattle.lk_names.specs.declared.names.LockName.{LockName}
-use Rattle.lk_names.specs.declared.names.Mode.{Mode}
-use Rattle.lk_word.specs.declared.rw_word.RwFields.{RwFields}
-use Rattle.lk_word.specs.RwWord.{packed_rw, IsPackableRw}
-use Rattle.lk_rows.specs.declared.parts.Frame.{Frame}
-use Rattle.lk_rows.specs.declared.parts.Pc.{Pc}
-use Rattle.lk_rows.specs.declared.parts.Pc.TheVariants.{Z1, Z2}
-use Rattle.lk_rows.specs.declared.setup.Verb.{Verb}
-use Rattle.lk_rows.specs.Moves.{rw_name}
-use Rattle.lk_rows.specs.TopRow.{Target, target}
-use Rattle.lk_law.specs.Families.{is_rw_row}
-use Rattle.lk_law.specs.Leads.{Shared, held_lock}
-use Rattle.lk_law.specs.RwKnown.{RwKnown}
-use Rattle.lk_domain.specs.Calls.{terms_of, Calls, Frees, StandsOn, acting, Begins, row_of, grip_of, lock_name}
-use Rattle.lk_domain.specs.Keeps.{Slot, Keeps, Knows, AllHome}
-use Rattle.lk_domain.specs.Ledgers.{is_first, turned}
-use Rattle.lk_domain.specs.Plans.{locks_of}
-use Rattle.lk_domain.specs.Plays.{made, turned_of}
-use Rattle.lk_domain.specs.Runs.{waiter, Runs}
-use Rattle.lk_domain.specs.RwPlays.{ActsFor, SharedBy, Shares}
-use Rattle.lk_domain.specs.Stand.{Stand}
-use Rattle.lk_domain.specs.Values.{out_in}
-use Rattle.lk_domain.specs.Views.{IsNumbered, own_number}
-use Rattle.lk_domain.specs.Words.{OfLock, lock_at}
-use Rattle.lk_domain.specs.declared.plan.Plan.{Plan}
-use Rattle.lk_domain.specs.declared.view.View.{View}
-use Rattle.lk_domain.proofs.rows.Fresh as fresh
-use Rattle.lk_domain.proofs.rows.Grips.{rw_target, frees_at}
-use Rattle.lk_domain.proofs.rows.Lands as lands
-use Rattle.lk_domain.proofs.rows.Sights.{IsSeen}
-use Rattle.lk_domain.proofs.words.LockPlays.{acting_any, acting_sole}
-use Rattle.lk_domain.proofs.journals.Alone.{some_out, out_is}
-use Rattle.lk_domain.proofs.Outs.{acting_holds}
+use Rattle.std.proofs.Common.{◌≡◌, ◌⊎◌, ℕ, ◌<◌, get_or, set, None, Bool, true, false, inl, inr}
+use Rattle.std.proofs.Common.{refl, sym, ap, ◌∙◌, subst, arith}
+use Rattle.lk_domain.proofs.Names.{Allows, Me, State, Step, keeps, get_elem?, some, IsPackableRw}
+use Rattle.lk_domain.proofs.Names.{RwFields, LockName, Mode, rw_name, Target, target, Frame, Pc, Z1}
+use Rattle.lk_domain.proofs.Names.{Z2, Verb, is_rw_row, Shared, held_lock, RwKnown, Begins, Calls}
+use Rattle.lk_domain.proofs.Names.{Frees, StandsOn, acting, grip_of, lock_name, row_of, terms_of}
+use Rattle.lk_domain.proofs.Names.{AllHome, Keeps, Knows, Slot, is_first, turned, locks_of, made}
+use Rattle.lk_domain.proofs.Names.{turned_of, Runs, waiter, ActsFor, SharedBy, Stand, out_in}
+use Rattle.lk_domain.proofs.Names.{IsNumbered, own_number, OfLock, lock_at, Plan, View}
+use Rattle.lk_word.specs.RwWord.{packed_rw}
+use Rattle.lk_domain.proofs.{Outs.acting_holds, journals.Alone.{some_out, out_is}}
 use Rattle.lk_domain.proofs.journals.Purses.{alters_at, knows_after}
+use Rattle.lk_domain.proofs.{rows.Grips.{rw_target, frees_at}, rows.Sights.IsSeen}
+use Rattle.lk_domain.proofs.{rw.OnShared.off_links, words.LockPlays.{acting_any, acting_sole}}
 use Rattle.lk_domain.proofs.words.Written.{bare}
+use Rattle.lk_domain.specs.RwPlays.{Shares}
+use Rattle.lk_domain.proofs.rows.Fresh as fresh
+use Rattle.lk_domain.proofs.rows.Lands as lands
 use Rattle.lk_domain.proofs.rw.Numbers as numbers
 use Rattle.lk_domain.proofs.rw.OnShared as on
-use Rattle.lk_domain.proofs.rw.OnShared.{off_links}
 
 first_index : (l : ℕ) → is_first (lock_name l) ≡ true → l ≡ 0
 first_index l e = grind (arith, e)

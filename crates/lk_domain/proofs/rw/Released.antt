@@ -1,28 +1,13 @@
 -- The releases of readers and writers: what they ask, and what they do to what their processor keeps.
-use Rattle.std.proofs.Common.{◌≡◌, ◌≢◌, ℕ, ◌<◌, List, [], length, Some, Bool, true, false, refl, sym, ap, ◌∙◌, subst}
-use Rattle.std.specs.Prelude.{if◌then◌else◌}
-use Rattle.atomic_table.specs.Table.{Me}
-use Rattle.lk_names.specs.declared.holder.Manner.{Manner}
-use Rattle.lk_names.specs.declared.holder.Manner.TheVariants.{Reads, Writes}
-use Rattle.lk_names.specs.declared.names.Kind.TheVariants.{Rw}
-use Rattle.lk_word.specs.declared.rw_word.RwFields.{RwFields}
-use Rattle.lk_rows.specs.declared.parts.Pc.{Pc}
-use Rattle.lk_rows.specs.declared.parts.Pc.TheVariants.{Z1, Z2}
-use Rattle.lk_rows.specs.declared.setup.Verb.{Verb}
-use Rattle.lk_rows.specs.declared.setup.Verb.TheVariants.{RUnlock, WUnlock}
-use Rattle.lk_law.specs.Agree.{halts}
-use Rattle.lk_law.specs.Leads.{Shared}
-use Rattle.lk_domain.specs.Calls.{Terms, terms_of, Hold, Calls, acting, are_calls, begin, begun, is_on, row_of}
-use Rattle.lk_domain.specs.Calls.{moved_to, lock_name, holds_in, way_in}
-use Rattle.lk_domain.specs.Keeps.{Slot}
-use Rattle.lk_domain.specs.Plans.{kind_at}
-use Rattle.lk_domain.specs.RwPlays.{ActsFor, SharedBy}
-use Rattle.lk_domain.specs.Turns.{HasLeft}
-use Rattle.lk_domain.specs.Views.{own_number}
-use Rattle.lk_domain.specs.declared.plan.Plan.{Plan}
-use Rattle.lk_domain.specs.declared.view.View.{View}
-use Rattle.lk_domain.proofs.Freed.{not_unlocking, released, freed_else, moved_else}
-use Rattle.lk_domain.proofs.Ways.{IsSeat}
+use Rattle.std.proofs.Common.{◌≡◌, ◌≢◌, ℕ, ◌<◌, List, [], length, Some, Bool, true, false, refl}
+use Rattle.std.proofs.Common.{sym, ap, ◌∙◌, subst, if◌then◌else◌}
+use Rattle.lk_domain.proofs.Names.{Me, RwFields, Manner, Reads, Writes, Rw, Pc, Z1, Z2, Verb}
+use Rattle.lk_domain.proofs.Names.{RUnlock, WUnlock, halts, Shared, Calls, Hold, acting, are_calls}
+use Rattle.lk_domain.proofs.Names.{begin, begun, holds_in, is_on, lock_name, moved_to, row_of}
+use Rattle.lk_domain.proofs.Names.{terms_of, way_in, Slot, kind_at, ActsFor, SharedBy, own_number}
+use Rattle.lk_domain.proofs.Names.{Plan, View}
+use Rattle.lk_domain.proofs.{Freed.{not_unlocking, released, freed_else, moved_else}, Ways.IsSeat}
+use Rattle.lk_domain.specs.{Calls.Terms, Turns.HasLeft}
 
 -- the operation, its one row, and the manner in which the lock was held
 pub data Lets : Verb → Pc → Manner → Type 0 where

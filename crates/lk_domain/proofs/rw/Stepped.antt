@@ -1,56 +1,31 @@
 -- What the step calls on the words of reader-writer locks do to the calls of their processor.
-use Rattle.std.proofs.Common.{◌≡◌, inl, ℕ, ◌≤◌, length, Some, None}
-use Rattle.std.proofs.Common.{Bool, true, false, eqb, refl, sym, ap, ◌∙◌, subst, arith}
-use Rattle.std.specs.Prelude.{if◌then◌else◌, not}
-use Rattle.atomic_table.specs.Table.{Me}
-use Rattle.lk_names.specs.declared.holder.Manner.TheVariants.{Reads, Writes}
-use Rattle.lk_names.specs.declared.names.LockName.{LockName}
-use Rattle.lk_names.specs.declared.names.Mode.{Mode}
-use Rattle.lk_names.specs.declared.names.Mode.TheVariants.{Virt, Native, Cna, Pv}
-use Rattle.lk_word.specs.declared.rw_word.RwFields.{RwFields}
+use Rattle.std.proofs.Common.{◌≡◌, inl, ℕ, ◌≤◌, length, Some, None, Bool, true, false, eqb, refl}
+use Rattle.std.proofs.Common.{sym, ap, ◌∙◌, subst, arith, if◌then◌else◌, not}
+use Rattle.lk_domain.proofs.Names.{Me, RwFields, Reads, Writes, LockName, Mode, Cna, Native, Pv}
+use Rattle.lk_domain.proofs.Names.{Virt, first_place, rw_name, Effect, Target, target, Frame, Pc}
+use Rattle.lk_domain.proofs.Names.{F1, R1, R2, R3, R4, R5, Wr1, Wr2, Wr3, Wr4, Wr5, Wr6, Y1, Y2, Y3}
+use Rattle.lk_domain.proofs.Names.{Y4, Y5, Verb, Lock, RUnlock, Read, Try, TryRead, TryWrite}
+use Rattle.lk_domain.proofs.Names.{Unlock, WUnlock, Write, is_cleared, is_empty, is_open, rw_row}
+use Rattle.lk_domain.proofs.Names.{is_rw_row, is_slow, Course, Met, Shared, course_at, held_lock}
+use Rattle.lk_domain.proofs.Names.{led, Grip, Outlook, Unchanged, acting, are_calls, course}
+use Rattle.lk_domain.proofs.Names.{grip_of, grip_told, sight_by, sight_of, terms_of, Slot, IsNoted}
+use Rattle.lk_domain.proofs.Names.{Steps, locks_of, ActsIn, carried_of, looks_by, ActsFor, SharedBy}
+use Rattle.lk_domain.proofs.Names.{awaits_by, follows_by, joins_at, joins_by, leaves_by, quits_by}
+use Rattle.lk_domain.proofs.Names.{seizes_at, seizes_by, watches_by, own_number, Notes, Plan, View}
 use Rattle.lk_word.specs.RwWord.{packed_rw}
-use Rattle.lk_rows.specs.declared.parts.Frame.{Frame}
-use Rattle.lk_rows.specs.declared.parts.Pc.{Pc}
-use Rattle.lk_rows.specs.declared.parts.Pc.TheVariants.{F1, R1, R2, R3, R4, R5, Wr1, Wr2, Wr3, Wr4}
-use Rattle.lk_rows.specs.declared.parts.Pc.TheVariants.{Wr5, Wr6, Y1, Y2, Y3, Y4, Y5}
-use Rattle.lk_rows.specs.declared.setup.Verb.{Verb}
-use Rattle.lk_rows.specs.declared.setup.Verb.TheVariants.{Lock, Try, Unlock, Read, TryRead, RUnlock, Write}
-use Rattle.lk_rows.specs.declared.setup.Verb.TheVariants.{TryWrite, WUnlock}
-use Rattle.lk_rows.specs.Moves.{first_place, rw_name}
-use Rattle.lk_names.specs.declared.events.RwHow.TheVariants as how
 use Rattle.lk_names.specs.declared.events.What.TheVariants.{Miss}
-use Rattle.lk_rows.specs.Row.{Effect, Done, looks, misses}
-use Rattle.lk_rows.specs.rows.Rw.{rw_row, is_open, is_empty, is_cleared, takes_written, queues_up}
-use Rattle.lk_rows.specs.rows.Rw.{frees_wait, rw_lock}
-use Rattle.lk_rows.specs.TopRow.{Target, target}
-use Rattle.lk_law.specs.Families.{is_slow, is_rw_row}
-use Rattle.lk_law.specs.Leads.{Met, Shared, Course, course_of, course_at, held_lock}
-use Rattle.lk_law.specs.Steps.{led}
-use Rattle.lk_domain.specs.Calls.{Grip, Unchanged, grip_of, grip_told, course, setting}
-use Rattle.lk_domain.specs.Calls.{terms_of, sight_of, acting, are_calls}
-use Rattle.lk_domain.specs.Calls.{Outlook, sight_by}
-use Rattle.lk_domain.specs.Keeps.{Slot}
-use Rattle.lk_domain.specs.Marked.{IsNoted, Steps}
-use Rattle.lk_domain.specs.Plans.{locks_of}
-use Rattle.lk_domain.specs.Plays.{ActsIn, carried_of}
-use Rattle.lk_domain.specs.Rows.{looks_by, queues_up as queues}
-use Rattle.lk_domain.specs.RwPlays.{ActsFor, SharedBy, Watches}
-use Rattle.lk_domain.specs.RwRows.{watches_at, watches_on, watch_takes, joins_at, joins_on, join_takes}
-use Rattle.lk_domain.specs.RwRows.{quits_by, quits_on, seizes_at, seizes_on, awaits_by, follows_by}
-use Rattle.lk_domain.specs.RwRows.{leaves_by, watches_by, joins_by, seizes_by, on_shared}
-use Rattle.lk_domain.specs.Views.{own_number}
-use Rattle.lk_domain.specs.declared.notes.Notes.{Notes}
-use Rattle.lk_domain.specs.declared.plan.Plan.{Plan}
-use Rattle.lk_domain.specs.declared.view.View.{View}
-use Rattle.lk_domain.proofs.seats.Places.{carried_same}
-use Rattle.lk_domain.proofs.turns.Courses.{Comes}
-use Rattle.lk_domain.proofs.rows.Fresh.{turned_purse}
-use Rattle.lk_domain.proofs.rows.Grips.{rw_target}
-use Rattle.lk_domain.proofs.turns.Noted.{stays}
+use Rattle.lk_rows.specs.Row.{Done, looks, misses}
+use Rattle.lk_rows.specs.rows.Rw.{takes_written, queues_up, frees_wait, rw_lock}
+use Rattle.lk_law.specs.Leads.{course_of}
 use Rattle.lk_domain.proofs.Turned.{Turn, turn_by, TakesIt, is_taking, is_opening}
+use Rattle.lk_domain.proofs.{rows.Fresh.turned_purse, rows.Grips.rw_target}
 use Rattle.lk_domain.proofs.rw.Numbers.{empty_test, cleared_test, writer_test, open_test, watch_row}
-use Rattle.lk_domain.proofs.rw.Numbers.{join_row}
-use Rattle.lk_domain.proofs.rw.Numbers.{quit_row, seize_row, await_row, follow_row}
+use Rattle.lk_domain.proofs.rw.Numbers.{join_row, quit_row, seize_row, await_row, follow_row}
+use Rattle.lk_domain.proofs.{seats.Places.carried_same, turns.Courses.Comes, turns.Noted.stays}
+use Rattle.lk_domain.specs.{Calls.setting, Rows.queues_up as queues, RwPlays.Watches}
+use Rattle.lk_domain.specs.RwRows.{watches_at, watches_on, watch_takes, joins_on, join_takes}
+use Rattle.lk_domain.specs.RwRows.{quits_on, seizes_on, on_shared}
+use Rattle.lk_names.specs.declared.events.RwHow.TheVariants as how
 
 -- what an effect makes of a call on the lock of the frame
 record Makes (f : Frame) (e : Effect RwFields) (waits taken : Bool) : Type 0 where

@@ -1,55 +1,35 @@
 -- A new table; numbers are drawn, and seats are cut and joined.
-use Rattle.std.proofs.Common.{◌≡◌, ◌≢◌, ⊎_elim, inl, ℕ, zero, suc, ◌+◌, ◌%◌, ◌^◌, ◌<◌, false}
-use Rattle.std.proofs.Common.{◌≤◌, List, [], ◌∷◌, drop, length, map, set, get_or, slice_get, Option, Some, None}
-use Rattle.std.proofs.Common.{refl, sym, ap, ◌∙◌, subst, arith}
-use Rattle.std.proofs.Common.{get_or-set_other, get_or-set_same}
-use Rattle.std.specs.List.{sum}
-use Rattle.std.proofs.lemmas.Option.{slice_get-get_or}
-use Rattle.std.proofs.lemmas.List.Sums.{sum_by-cons}
-use mathlib.Core.Logic.{dite}
-use mathlib.Core.Option.{some, some-injective, some-ne-none}
-use native.Mathlib.Decide.{ℕ_discrete}
-use lib.ListN.{get_elem?}
-use Rattle.atomic_table.specs.Table.{State, Me, Step, keeps, Allows, opening}
-use Rattle.atomic_table.proofs.Lists.{at_set, set_else, at_index, at_map}
-use Rattle.lk_names.specs.History.{no_history, LockHistory}
-use Rattle.lk_word.specs.declared.spin_word.Layout.{Layout}
-use Rattle.lk_names.specs.declared.names.LockName.{LockName}
-use Rattle.lk_word.specs.declared.spin_word.NodeName.{NodeName}
-use Rattle.lk_rows.specs.declared.parts.Frame.{Frame}
-use Rattle.lk_law.specs.SoundWorld.{IsSoundWorld, is_rw_name}
-use Rattle.std.specs.Prelude.{Bool, true, if◌then◌else◌}
-use Rattle.lk_law.proofs.common.Puts.{not-true}
-use Rattle.lk_word.specs.SpinWord.{packed}
-use Rattle.lk_word.specs.RwWord.{packed_rw}
+use Rattle.std.proofs.Common.{◌≡◌, ◌≢◌, ⊎_elim, inl, ℕ, zero, suc, ◌+◌, ◌%◌, ◌^◌, ◌<◌, false, ◌≤◌}
+use Rattle.std.proofs.Common.{List, [], ◌∷◌, drop, length, map, set, get_or, slice_get, Option}
+use Rattle.std.proofs.Common.{Some, None, refl, sym, ap, ◌∙◌, subst, arith, get_or-set_other}
+use Rattle.std.proofs.Common.{get_or-set_same, Bool, true, if◌then◌else◌}
+use Rattle.std.proofs.{lemmas.List.Sums.sum_by-cons, lemmas.Option.slice_get-get_or}
+use Rattle.lk_domain.proofs.Names.{sum, at_set, set_else, Allows, Me, State, Step, keeps, get_elem?}
+use Rattle.lk_domain.proofs.Names.{dite, some, some-injective, some-ne-none, ℕ_discrete, Layout}
+use Rattle.lk_domain.proofs.Names.{NodeName, LockHistory, LockName, Frame, not-true, IsSoundWorld}
+use Rattle.lk_domain.proofs.Names.{is_rw_name, World, step_keeps, Among, Running, no_calls, Keeps}
+use Rattle.lk_domain.proofs.Names.{Knows, Slot, undrawn, no_ledger, IsRunningPlan, cpus_of, kind_at}
+use Rattle.lk_domain.proofs.Names.{layout_in, Mirrors, Runs, SeatFits, Seeks, waiter, Stand, Fits}
+use Rattle.lk_domain.proofs.Names.{FitsUnder, Key, Reaches, homes_of, lodged, outs_of, dealer}
+use Rattle.lk_domain.proofs.Names.{numbers, times, view, OfLock, OfNode, Place, balance_at}
+use Rattle.lk_domain.proofs.Names.{number_of, place_at, stored_number, version_at, with_mark}
+use Rattle.lk_domain.proofs.Names.{Journal, Plan, Entries, View}
+use Rattle.atomic_table.proofs.Lists.{at_index, at_map}
+use Rattle.atomic_table.specs.Table.{opening}
+use Rattle.lk_word.specs.{RwWord.packed_rw, SpinWord.packed}
+use Rattle.lk_names.specs.History.{no_history}
 use Rattle.lk_rows.specs.Machine.{rest_word, rest_rw}
-use Rattle.lk_law.specs.Resting.{world_at_rest}
-use Rattle.lk_law.specs.World.{World}
 use Rattle.lk_law.proofs.common.RestWorld.{rest_is_sound}
+use Rattle.lk_law.specs.Resting.{world_at_rest}
 use Rattle.lk_waits.proofs.Attended.{attended_at_rest}
-use Rattle.lk_domain.specs.Calls.{no_calls, Running}
-use Rattle.lk_domain.specs.Keeps.{Slot, Keeps, Knows, undrawn}
-use Rattle.lk_domain.specs.Ledgers.{no_ledger, with_share}
-use Rattle.lk_values.proofs.Guards as guards
-use Rattle.lk_values.proofs.Guards.{step_keeps}
-use Rattle.lk_values.specs.Guarded.{Among}
-use Rattle.lk_domain.specs.Values.{Reaches, outs_of, homes_of, Fits, FitsUnder, Key, keys_of, id_of, lodged, AreLaid, AreShut}
-use Rattle.lk_domain.specs.Plans.{cpus_of, kind_at, share_of, room_of, layout_in, IsRunningPlan, turns_of}
-use Rattle.lk_domain.specs.Plays.{Draws}
-use Rattle.lk_domain.specs.Runs.{Runs, SeatFits, Deals, Seeks, Mirrors, waiter}
-use Rattle.lk_domain.specs.Stand.{Stand}
-use Rattle.lk_domain.specs.Views.{view, dealer, drawer, total, times, numbers}
-use Rattle.lk_domain.specs.Views.{once_below}
-use Rattle.lk_domain.specs.Words.{Place, OfLock, OfNode, place_at, number_of, with_mark}
-use Rattle.lk_domain.specs.Words.{version_at, balance_at, stored_number, IsOpening}
-use Rattle.lk_domain.specs.declared.ledger.journal.Journal.{Journal}
-use Rattle.lk_domain.specs.declared.plan.Plan.{Plan}
-use Rattle.lk_domain.specs.declared.slot.Stowed.TheVariants.{Entries}
-use Rattle.lk_domain.specs.declared.view.View.{View}
-use Rattle.lk_domain.proofs.words.NodeWords.{none_reset, rest_number, stored_zero}
 use Rattle.lk_domain.proofs.journals.Purses.{place_kept}
-use Rattle.lk_domain.proofs.words.Written.{bare, behind, unwritten}
 use Rattle.lk_domain.proofs.seats.Totals.{total-set, once_no, once_more, drawn}
+use Rattle.lk_domain.proofs.words.NodeWords.{none_reset, rest_number, stored_zero}
+use Rattle.lk_domain.proofs.words.Written.{bare, behind, unwritten}
+use Rattle.lk_domain.specs.{Ledgers.with_share, Plans.{share_of, room_of, turns_of}, Plays.Draws}
+use Rattle.lk_domain.specs.{Runs.Deals, Values.{keys_of, id_of, AreLaid, AreShut}}
+use Rattle.lk_domain.specs.{Views.{drawer, total, once_below}, Words.IsOpening}
+use Rattle.lk_values.proofs.Guards as guards
 
 number_is : {a b : ℕ} → Some a ≡ Some b → a ≡ b
 number_is e = grind (arith, e)

@@ -1,23 +1,13 @@
 -- Each value under a lock is one seat's to take.
-use Rattle.std.proofs.Common.{◌≡◌, inl, inr, arith, ℕ, List, [], ◌∷◌, Option, Some, None, Bool, true, false, refl, sym, ap, ◌∙◌, get_or}
-use Rattle.std.specs.Prelude.{if◌then◌else◌}
-use mathlib.Core.Option.{some}
-use lib.ListN.{get_elem?}
-use Rattle.atomic_table.specs.Table.{State}
-use Rattle.lk_names.specs.Names.{same_lock}
-use Rattle.lk_names.specs.declared.names.Waiter.{Waiter}
-use Rattle.lk_names.specs.declared.holder.Manner.{Manner}
+use Rattle.std.proofs.Common.{◌≡◌, inl, inr, arith, ℕ, List, [], ◌∷◌, Option, Some, None, Bool}
+use Rattle.std.proofs.Common.{true, false, refl, sym, ap, ◌∙◌, get_or, if◌then◌else◌}
+use Rattle.lk_domain.proofs.Names.{State, get_elem?, some, same_lock, Manner, Waiter, Calls, Hold}
+use Rattle.lk_domain.proofs.Names.{hold_in, lock_name, way_in, Slot, Runs, SeatFits, waiter}
+use Rattle.lk_domain.proofs.Names.{Reaches, lock_of, IsNumbered, Plan, View}
 use Rattle.lk_values.specs.Guarded.{IsExclusive}
-use Rattle.lk_domain.specs.Calls.{Calls, Hold, lock_name, hold_in, way_in}
-use Rattle.lk_domain.specs.Keeps.{Slot}
-use Rattle.lk_domain.specs.Runs.{Runs, SeatFits, waiter}
-use Rattle.lk_domain.specs.Values.{Reaches, is_sole, lock_of}
-use Rattle.lk_domain.specs.Views.{IsNumbered}
-use Rattle.lk_domain.specs.declared.plan.Plan.{Plan}
-use Rattle.lk_domain.specs.declared.view.View.{View}
-use Rattle.lk_domain.proofs.Manners.{held_spun, way_of}
-use Rattle.lk_domain.proofs.journals.Alone.{one_holder}
+use Rattle.lk_domain.proofs.{Manners.{held_spun, way_of}, journals.Alone.one_holder}
 use Rattle.lk_domain.proofs.seats.Totals.{apart}
+use Rattle.lk_domain.specs.Values.{is_sole}
 
 -- the manner of a hold
 pub hold_way : (hs : List Hold) (l : ℕ) (m : Manner) (o : Bool) → hold_in hs l ≡ Some (m, o) → way_in hs l ≡ Some m

@@ -1,12 +1,8 @@
 -- The homes of a lock: its own, and that of its copy for each processor.
 use Rattle.std.proofs.Common.{◌≡◌, inl, inr, ℕ, ◌+◌, ◌<◌, ap, ◌∙◌}
-use Rattle.std.proofs.Math.Nat.{mod-eq_of_lt}
-use Rattle.std.proofs.lemmas.Nat.{mod-mul-add, div-mul-add}
-use Rattle.lk_domain.specs.Calls.{hold_in}
-use Rattle.lk_domain.specs.Plans.{locks_of}
-use Rattle.lk_domain.specs.Values.{IsHomeAt, IsHomeWith, MayCopy, copy_at, lock_of}
-use Rattle.lk_domain.specs.declared.plan.Plan.{Plan}
-use Rattle.lk_domain.specs.declared.view.View.{View}
+use Rattle.std.proofs.{Math.Nat.mod-eq_of_lt, lemmas.Nat.{mod-mul-add, div-mul-add}}
+use Rattle.lk_domain.proofs.Names.{hold_in, locks_of, IsHomeAt, lock_of, Plan, View}
+use Rattle.lk_domain.specs.Values.{IsHomeWith, MayCopy, copy_at}
 
 -- the lock of its own home, and of the home of a copy
 

@@ -1,22 +1,14 @@
 -- The holds of a processor, where the value of a lock goes out with a hold, or comes home: the same but
 -- for that.
-use Rattle.std.proofs.Common.{◌≡◌, ◌≢◌, ◌⊎◌, inl, inr, ℕ, ◌+◌, List, [], ◌∷◌, Option, Some, None, Bool, true, false}
-use Rattle.std.proofs.Common.{refl, sym, ap, ◌∙◌}
-use Rattle.std.proofs.lemmas.Bool.{cases_Bool}
-use Rattle.std.specs.Prelude.{if◌then◌else◌, ◌&&◌, ◌==◌}
-use Rattle.lk_names.specs.Names.{same_lock}
-use Rattle.lk_names.specs.declared.holder.Manner.{Manner}
-use Rattle.lk_names.specs.declared.names.Kind.{Kind}
-use Rattle.lk_names.specs.declared.names.LockName.{LockName}
-use Rattle.lk_law.proofs.common.Puts.{if-true, if-false, not-true}
-use Rattle.lk_law.proofs.common.Sames.{same_lock-true}
-use Rattle.lk_domain.specs.Calls.{Hold, Calls, Running, holds_in, hold_in, held_in, way_in, AreHeld, AreFresh, lock_name}
-use Rattle.lk_domain.specs.Keeps.{any_count, sole_count}
-use Rattle.lk_domain.specs.Marked.{IsNoted}
-use Rattle.lk_domain.specs.Values.{IsReached, IsOutWith, is_sole, lock_of, marked_out}
-use Rattle.lk_domain.specs.declared.notes.Notes.{Notes}
-use Rattle.lk_domain.specs.declared.plan.Plan.{Plan}
+use Rattle.std.proofs.Common.{◌≡◌, ◌≢◌, ◌⊎◌, inl, inr, ℕ, ◌+◌, List, [], ◌∷◌, Option, Some, None}
+use Rattle.std.proofs.Common.{Bool, true, false, refl, sym, ap, ◌∙◌, if◌then◌else◌, ◌&&◌, ◌==◌}
+use Rattle.lk_domain.proofs.Names.{cases_Bool, same_lock, Manner, Kind, LockName, if-false, if-true}
+use Rattle.lk_domain.proofs.Names.{not-true, same_lock-true, AreFresh, AreHeld, Calls, Hold}
+use Rattle.lk_domain.proofs.Names.{Running, held_in, hold_in, holds_in, lock_name, way_in}
+use Rattle.lk_domain.proofs.Names.{any_count, sole_count, IsNoted, IsOutWith, lock_of, marked_out}
+use Rattle.lk_domain.proofs.Names.{Notes, Plan}
 use Rattle.lk_domain.proofs.turns.Marks.{mark_same}
+use Rattle.lk_domain.specs.Values.{IsReached, is_sole}
 
 -- a hold with the mark, at the head or further on
 marked_by : Bool → Bool → Hold → List Hold → List Hold → List Hold

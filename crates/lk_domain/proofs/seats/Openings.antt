@@ -1,26 +1,15 @@
 -- The words of a new table are written; and its processors are dealt, one after another.
 use Rattle.std.proofs.Common.{◌≡◌, ◌≢◌, inl, inr, ℕ, zero, suc, ◌+◌, ◌<◌, List, [], ◌∷◌, ◌++◌}
-use Rattle.std.proofs.Common.{length, map, take, get_or, slice_get, set, Option, Some, sym, ap, ◌∙◌, subst, arith}
-use Rattle.std.proofs.Common.{length-set, get_or-set_other, get_or-set_same}
-use Rattle.std.proofs.lemmas.Bool.{cases_eq}
+use Rattle.std.proofs.Common.{length, map, take, get_or, slice_get, set, Option, Some, sym, ap, ◌∙◌}
+use Rattle.std.proofs.Common.{subst, arith, length-set, get_or-set_other, get_or-set_same}
 use Rattle.std.proofs.lemmas.List.Sums.{sum_by-cons}
-use Rattle.std.specs.List.{sum}
+use Rattle.lk_domain.proofs.Names.{cases_eq, sum, no_calls, Slot, no_ledger, IsRunningPlan}
+use Rattle.lk_domain.proofs.Names.{accounts_of, Stand, Key, lodged, dealer, view, balance_at}
+use Rattle.lk_domain.proofs.Names.{words_of, Cpu, Domain, Journal, Plan, Entries}
 use Rattle.atomic_table.specs.Table.{opening}
-use Rattle.lk_domain.specs.Calls.{no_calls}
-use Rattle.lk_domain.specs.Keeps.{Slot}
-use Rattle.lk_domain.specs.Ledgers.{no_ledger}
-use Rattle.lk_domain.specs.Plans.{IsRunningPlan, accounts_of, room_of}
-use Rattle.lk_domain.specs.Values.{Key, AreLaid, lodged}
-use Rattle.lk_domain.specs.Seats.{IsDealt, AreDealt}
-use Rattle.lk_domain.specs.Stand.{Stand}
-use Rattle.lk_domain.specs.Views.{view, dealer}
-use Rattle.lk_domain.specs.Words.{words_of, balance_at, IsOpening}
-use Rattle.lk_domain.specs.declared.cpu.Cpu.{Cpu}
-use Rattle.lk_domain.specs.declared.domain.Domain.{Domain}
-use Rattle.lk_domain.specs.declared.ledger.journal.Journal.{Journal}
-use Rattle.lk_domain.specs.declared.plan.Plan.{Plan}
-use Rattle.lk_domain.specs.declared.slot.Stowed.TheVariants.{Entries}
 use Rattle.lk_domain.proofs.seats.Dealt.{starts}
+use Rattle.lk_domain.specs.{Plans.room_of, Seats.{IsDealt, AreDealt}, Values.AreLaid}
+use Rattle.lk_domain.specs.Words.{IsOpening}
 
 -- what is read at a place
 pub get_is : (xs : List ℕ) (n x : ℕ) → slice_get xs n ≡ Some x → x ≡ get_or xs n 0

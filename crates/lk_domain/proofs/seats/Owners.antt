@@ -1,17 +1,9 @@
 -- Which seat has a number for its own, and that each frame is a seat's.
-use Rattle.std.proofs.Common.{◌≡◌, ◌≢◌, ◌⊎◌, inl, inr, ℕ, zero, suc, List, [], ◌∷◌, Option, Some, None}
-use Rattle.std.proofs.Common.{refl, sym, ap, ◌∙◌, arith}
-use mathlib.Core.Logic.{dite}
-use mathlib.Core.Option.{some, some-injective, some-ne-none}
-use native.Mathlib.Decide.{ℕ_discrete}
-use lib.ListN.{get_elem?}
-use Rattle.atomic_table.specs.Table.{State}
-use Rattle.lk_names.specs.declared.names.Waiter.{Waiter}
-use Rattle.lk_rows.specs.declared.parts.Frame.{Frame}
-use Rattle.lk_domain.specs.Calls.{frame_in}
-use Rattle.lk_domain.specs.Runs.{Runs, IsNobodys}
-use Rattle.lk_domain.specs.declared.plan.Plan.{Plan}
-use Rattle.lk_domain.specs.declared.view.View.{View}
+use Rattle.std.proofs.Common.{◌≡◌, ◌≢◌, ◌⊎◌, inl, inr, ℕ, zero, suc, List, [], ◌∷◌, Option, Some}
+use Rattle.std.proofs.Common.{None, refl, sym, ap, ◌∙◌, arith}
+use Rattle.lk_domain.proofs.Names.{State, get_elem?, dite, some, some-injective, some-ne-none}
+use Rattle.lk_domain.proofs.Names.{ℕ_discrete, Waiter, Frame, frame_in, Runs, Plan, View}
+use Rattle.lk_domain.specs.Runs.{IsNobodys}
 
 none_some : {A : Type 0} {a : A} → None ≡ Some a → ⊥
 none_some e = cc e

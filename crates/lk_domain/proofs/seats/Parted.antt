@@ -1,33 +1,23 @@
 -- Seats are cut in two, and joined.
 use Rattle.std.proofs.Common.{◌≡◌, ◌≢◌, ◌⊎◌, ⊎_elim, inl, inr, ℕ, zero, suc, ◌+◌, List, [], ◌∷◌}
-use Rattle.std.proofs.Common.{◌++◌, length, map, set, get_or, Option, Some, None, refl, sym, ap, ◌∙◌}
-use Rattle.std.proofs.Common.{subst, arith}
+use Rattle.std.proofs.Common.{◌++◌, length, map, set, get_or, Option, Some, None, refl, sym, ap}
+use Rattle.std.proofs.Common.{◌∙◌, subst, arith}
 use Rattle.std.proofs.lemmas.List.{map-append}
-use mathlib.Core.Logic.{dite}
-use native.Mathlib.Decide.{ℕ_discrete}
-use mathlib.Core.Option.{some, some-injective, some-ne-none}
-use lib.ListN.{get_elem?}
+use Rattle.lk_domain.proofs.Names.{at_set, set_else, get_elem?, dite, some, some-injective}
+use Rattle.lk_domain.proofs.Names.{some-ne-none, ℕ_discrete, step_keeps, Among, Calls, Hold}
+use Rattle.lk_domain.proofs.Names.{Running, frame_in, held_in, no_calls, Keeps, Knows, Slot, Ledger}
+use Rattle.lk_domain.proofs.Names.{Out, Past, no_ledger, Runs, SeatFits, Seeks, Stand, FitsUnder}
+use Rattle.lk_domain.proofs.Names.{IsOutAt, Reaches, homes_of, outs_of, IsNumbered, all_past}
+use Rattle.lk_domain.proofs.Names.{dealer, listed, numbers, own_number, past_of, times, view, Plan}
+use Rattle.lk_domain.proofs.Names.{View}
+use Rattle.atomic_table.proofs.Lists.{at_longer, at_last}
 use Rattle.atomic_table.specs.Table.{Splits, Joins}
-use Rattle.atomic_table.proofs.Lists.{at_set, at_longer, at_last, set_else}
-use Rattle.lk_domain.specs.Calls.{Calls, no_calls, Running, Hold, frame_in, held_in}
-use Rattle.lk_domain.specs.Keeps.{Slot, Keeps, Knows}
-use Rattle.lk_domain.specs.Ledgers.{Ledger, Past, Out, no_ledger, with_share}
-use Rattle.lk_domain.specs.Plans.{share_of}
-use Rattle.lk_domain.specs.Values.{Reaches, IsOutAt, outs_of, homes_of, FitsUnder}
-use Rattle.lk_values.proofs.Guards.{step_keeps, new_seat_keeps}
-use Rattle.lk_values.specs.Guarded.{Among}
-use Rattle.lk_domain.specs.Seated.{HoldsNothing}
-use Rattle.lk_domain.specs.Runs.{Runs, SeatFits, Deals, Seeks}
-use Rattle.lk_domain.specs.Stand.{Stand}
-use Rattle.lk_domain.specs.Views.{view, dealer, drawer, newcomer, nobody, times, numbers, listed}
-use Rattle.lk_domain.specs.Views.{number_of, past_of, all_past, joined, with_more}
-use Rattle.lk_domain.specs.Views.{IsNumbered, own_number}
-use Rattle.lk_domain.specs.declared.plan.Plan.{Plan}
-use Rattle.lk_domain.specs.declared.view.View.{View}
-use Rattle.lk_domain.proofs.rows.Kept.{set_at}
+use Rattle.lk_values.proofs.Guards.{new_seat_keeps}
+use Rattle.lk_domain.proofs.{journals.Purses.{past_more, past_known}, rows.Kept.set_at}
 use Rattle.lk_domain.proofs.seats.Owners.{number_cases}
-use Rattle.lk_domain.proofs.journals.Purses.{past_more, past_known}
 use Rattle.lk_domain.proofs.seats.Totals.{total-set, total-append, times-append}
+use Rattle.lk_domain.specs.{Ledgers.with_share, Plans.share_of, Runs.Deals, Seated.HoldsNothing}
+use Rattle.lk_domain.specs.Views.{drawer, newcomer, nobody, number_of, joined, with_more}
 
 none_some : {a : ℕ} → None ≡ Some a → ⊥
 none_some e = cc

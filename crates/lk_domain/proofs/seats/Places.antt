@@ -1,7 +1,6 @@
 -- What a seat carries: the empty places of what it has out.
 use Rattle.std.proofs.Common.{◌≡◌, sym}
-use Rattle.lk_domain.specs.Plays.{carried_with, carried_of}
-use Rattle.lk_domain.specs.declared.view.View.{View}
+use Rattle.lk_domain.proofs.Names.{carried_of, carried_with, View}
 
 -- it is the same while the seat is who it is and the journal is where it was
 pub carried_same : (v w : View) → w.who ≡ v.who → w.ledger.out ≡ v.ledger.out → carried_of v ≡ carried_of w

@@ -1,35 +1,24 @@
 -- What the steps ask by which a value under a lock goes out and comes home.
-use Rattle.std.proofs.Common.{◌≡◌, ◌≢◌, inl, inr, ⊎_elim, ℕ, zero, suc, ◌+◌, ◌<◌, ◌≤◌, List, [], ◌∷◌, length, set, get_or, Option, Some, None}
-use Rattle.std.specs.Prelude.{slice_get}
-use Rattle.std.proofs.Common.{Bool, true, false, refl, sym, ap, ◌∙◌, subst, arith, length-set}
-use Rattle.std.proofs.lemmas.Bool.{cases_eq}
-use mathlib.Core.Option.{Option as Maybe, none, some}
-use lib.ListN.{get_elem?}
-use lib.Seq.{set-get_or}
-use Rattle.atomic_table.specs.Table.{State, Me, Step, takes, gives, Allows}
-use Rattle.atomic_table.specs.Seated.{TableId}
-use Rattle.atomic_table.proofs.Lists.{at_set, set_else}
-use Rattle.lk_cell.specs.Latched.{IsKey}
-use Rattle.lk_values.specs.Guarded.{Among, IsHome}
+use Rattle.std.proofs.Common.{◌≡◌, ◌≢◌, inl, inr, ⊎_elim, ℕ, zero, suc, ◌+◌, ◌<◌, ◌≤◌, List, []}
+use Rattle.std.proofs.Common.{◌∷◌, length, set, get_or, Option, Some, None, slice_get, Bool, true}
+use Rattle.std.proofs.Common.{false, refl, sym, ap, ◌∙◌, subst, arith, length-set}
+use Rattle.lk_domain.proofs.Names.{cases_eq, at_set, set_else, TableId, Allows, Me, State, Step}
+use Rattle.lk_domain.proofs.Names.{get_elem?, set-get_or, none, some, Among, Hold, Keeps, Knows}
+use Rattle.lk_domain.proofs.Names.{Slot, undrawn, Runs, SeatFits, Stand, Fits, FitsUnder, IsClear}
+use Rattle.lk_domain.proofs.Names.{IsHomeAt, IsKeyOf, IsNewestAt, IsOutAt, Key, Reaches, bringing}
+use Rattle.lk_domain.proofs.Names.{homes_of, lock_of, marked_out, outs_of, taking, IsNumbered}
+use Rattle.lk_domain.proofs.Names.{balance_at, quiet_at, version_at, words_of, Plan, CellKey, View}
+use Rattle.atomic_table.specs.Table.{takes, gives}
+use mathlib.Core.Option.{Option as Maybe}
 use Rattle.lk_values.proofs.Guards.{holder_finds, taking_keeps, bringing_keeps}
-use Rattle.lk_domain.specs.Calls.{Hold}
-use Rattle.lk_domain.specs.Keeps.{Slot, Keeps, Knows, undrawn}
-use Rattle.lk_domain.specs.Plays.{ValueTakenBy, TakesValue, BringsValue}
-use Rattle.lk_domain.specs.Runs.{Runs, SeatFits}
-use Rattle.lk_domain.specs.Stand.{Stand}
-use Rattle.lk_domain.specs.Values.{Reaches, IsOutAt, IsHomeAt, IsClear, IsNewestAt, FitsUnder, Fits, HasCell, IsKeyOf}
-use Rattle.lk_domain.specs.Values.{Key, id_of, keys_of, homes_of, lock_of, outs_of, taking, bringing, older, marked_out}
-use Rattle.lk_domain.specs.Views.{IsNumbered}
-use Rattle.lk_domain.specs.Words.{version_at, balance_at, quiet_at, words_of}
-use Rattle.lk_domain.specs.declared.plan.Plan.{Plan}
-use Rattle.lk_domain.specs.declared.slot.Stowed.TheVariants.{CellKey}
-use Rattle.lk_domain.specs.declared.view.View.{View}
-use Rattle.lk_domain.proofs.Outs.{stays_out}
-use Rattle.lk_domain.proofs.journals.Purses.{open_same, place_kept}
-use Rattle.lk_domain.proofs.rows.Kept as rule
-use Rattle.lk_domain.proofs.rows.Kept.{halting_same}
+use Rattle.lk_values.specs.Guarded.{IsHome}
+use Rattle.lk_cell.specs.Latched.{IsKey}
+use Rattle.lk_domain.proofs.{Outs.stays_out, journals.Purses.{open_same, place_kept}}
+use Rattle.lk_domain.proofs.{rows.Kept.halting_same, seats.Exclusive.one_reaches}
 use Rattle.lk_domain.proofs.seats.Totals.{total-same}
-use Rattle.lk_domain.proofs.seats.Exclusive.{one_reaches}
+use Rattle.lk_domain.specs.Plays.{ValueTakenBy, TakesValue, BringsValue}
+use Rattle.lk_domain.specs.Values.{HasCell, id_of, keys_of, older}
+use Rattle.lk_domain.proofs.rows.Kept as rule
 use Rattle.lk_domain.proofs.seats.Marks as marks
 
 -- the view of a seat with other values out

@@ -1,15 +1,11 @@
 -- Sums over the seats, one of which changes; and that each number is one seat's.
-use Rattle.std.proofs.Common.{◌≡◌, ◌≢◌, ℕ, zero, suc, ◌+◌, ◌<◌, ◌≤◌, Bool, true, false, List, [], ◌∷◌}
-use Rattle.std.proofs.Common.{◌++◌, map, set, Option, Some, sym, refl, ap, ◌∙◌, arith, eq-eqb}
-use Rattle.std.proofs.Common.{ne_eqb, le-ltb, lt-ltb}
-use Rattle.std.specs.Prelude.{if◌then◌else◌, nat_lt}
-use mathlib.Core.Logic.{dite}
-use native.Mathlib.Decide.{ℕ_discrete, dec_lt}
-use mathlib.Core.Option.{some, some-injective, some-ne-none}
-use lib.ListN.{get_elem?}
-use Rattle.lk_domain.specs.Runs.{IsNobodys}
-use Rattle.lk_domain.specs.Views.{total, times, listed, number_of, numbers, once_below}
-use Rattle.lk_domain.specs.declared.view.View.{View}
+use Rattle.std.proofs.Common.{◌≡◌, ◌≢◌, ℕ, zero, suc, ◌+◌, ◌<◌, ◌≤◌, Bool, true, false, List, []}
+use Rattle.std.proofs.Common.{◌∷◌, ◌++◌, map, set, Option, Some, sym, refl, ap, ◌∙◌, arith, eq-eqb}
+use Rattle.std.proofs.Common.{ne_eqb, le-ltb, lt-ltb, if◌then◌else◌, nat_lt}
+use Rattle.lk_domain.proofs.Names.{get_elem?, dite, some, some-injective, some-ne-none, ℕ_discrete}
+use Rattle.lk_domain.proofs.Names.{listed, numbers, times, View}
+use native.Mathlib.Decide.{dec_lt}
+use Rattle.lk_domain.specs.{Runs.IsNobodys, Views.{total, number_of, once_below}}
 
 module _ {A : Type 0} (g : A → ℕ) where
   pub total-append : (l m : List A) → total g (l ++ m) ≡ total g l + total g m

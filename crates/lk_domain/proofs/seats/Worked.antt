@@ -1,12 +1,7 @@
 -- A value that is worked on where it lies: its key goes out with the seat, and comes home.
 use Rattle.std.proofs.Common.{◌≡◌, ℕ, List, ◌∷◌, Some, None, sym, ap, ◌∙◌, subst, get_or}
-use Rattle.atomic_table.specs.Table.{rest}
-use Rattle.lk_domain.specs.Calls.{Hold}
-use Rattle.lk_domain.specs.Keeps.{Slot}
-use Rattle.lk_domain.specs.Values.{IsClear, IsHomeAt, IsNewestAt, Key, bringing, lock_of, taking}
-use Rattle.lk_domain.specs.declared.plan.Plan.{Plan}
-use Rattle.lk_domain.specs.declared.slot.Stowed.TheVariants.{CellKey}
-use Rattle.lk_domain.specs.declared.view.View.{View}
+use Rattle.lk_domain.proofs.Names.{rest, Hold, Slot, IsClear, IsHomeAt, IsNewestAt, Key, bringing}
+use Rattle.lk_domain.proofs.Names.{lock_of, taking, Plan, CellKey, View}
 use Rattle.lk_domain.proofs.seats.Marks.{mark_back}
 
 -- one slot lies at the head of a list

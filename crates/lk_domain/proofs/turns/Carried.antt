@@ -1,19 +1,9 @@
 -- A row of a lock leaves a processor's number and plan, and what it carries.
 use Rattle.std.proofs.Common.{◌≡◌, ℕ, Some, sym, ap, ◌∙◌, subst}
-use Rattle.atomic_table.specs.Table.{Me}
-use Rattle.lk_rows.specs.declared.setup.Verb.{Verb}
-use Rattle.lk_law.specs.Leads.{Met, Word}
-use Rattle.lk_domain.specs.Calls.{acting}
-use Rattle.lk_domain.specs.Keeps.{Slot}
-use Rattle.lk_domain.specs.Marked.{IsNoted}
-use Rattle.lk_domain.specs.Plans.{locks_of}
-use Rattle.lk_domain.specs.Plays.{Goes, MadeBy, carried_of}
-use Rattle.lk_domain.specs.Views.{own_number}
-use Rattle.lk_domain.specs.declared.notes.Notes.{Notes}
-use Rattle.lk_domain.specs.declared.plan.Plan.{Plan}
-use Rattle.lk_domain.specs.declared.view.View.{View}
-use Rattle.lk_domain.proofs.seats.Places.{carried_same}
-use Rattle.lk_domain.proofs.rows.Fresh.{turned_purse}
+use Rattle.lk_domain.proofs.Names.{Me, Verb, Met, Word, acting, Slot, IsNoted, locks_of, MadeBy}
+use Rattle.lk_domain.proofs.Names.{carried_of, own_number, Notes, Plan, View}
+use Rattle.lk_domain.proofs.{rows.Fresh.turned_purse, seats.Places.carried_same}
+use Rattle.lk_domain.specs.Plays.{Goes}
 
 module _ (v : Verb) (l met : ℕ) (m n : Me Slot View) (made : MadeBy v l m met n) where
   pub numbered : {p : ℕ} → m.0.who.number ≡ Some p → n.0.who.number ≡ Some p

@@ -1,43 +1,25 @@
 -- What the rows of the first step calls come to, by the word that they meet.
-use Rattle.std.proofs.Common.{◌≡◌, inl, inr, ℕ, Option, Some, None, Bool, true, false, eqb, refl, sym, ap}
-use Rattle.std.proofs.Common.{◌∙◌, subst, ◌||◌}
-use Rattle.std.proofs.lemmas.Bool.{cases_Bool}
-use Rattle.std.specs.Prelude.{if◌then◌else◌, ◌&&◌, not, is_some}
-use Rattle.lk_names.specs.declared.holder.Manner.TheVariants.{Spins}
-use Rattle.lk_names.specs.declared.names.Mode.{Mode}
-use Rattle.lk_names.specs.declared.names.Mode.TheVariants.{Virt, Native, Cna, Pv}
-use Rattle.lk_word.specs.declared.spin_word.NodeName.{NodeName}
-use Rattle.lk_word.specs.declared.spin_word.Fields.{Fields}
-use Rattle.lk_word.specs.declared.spin_word.Layout.{Layout}
+use Rattle.std.proofs.Common.{◌≡◌, inl, inr, ℕ, Option, Some, None, Bool, true, false, eqb, refl}
+use Rattle.std.proofs.Common.{sym, ap, ◌∙◌, subst, ◌||◌, if◌then◌else◌, ◌&&◌, not, is_some}
+use Rattle.lk_domain.proofs.Names.{cases_Bool, Fields, Layout, NodeName, Spins, Mode, Cna, Native}
+use Rattle.lk_domain.proofs.Names.{Pv, Virt, is_node, node_of, Effect, Lead, target, Flag, Frame}
+use Rattle.lk_domain.proofs.Names.{Pc, C1, C2, C3, C5, C7, C8, C10, F1, G1, G2, G3, G4, G5, G6, G7}
+use Rattle.lk_domain.proofs.Names.{G8, G9, G10, G11, N1, N2, P0, P1, P2, P3, P4, R4, T1, T2, U1, V1}
+use Rattle.lk_domain.proofs.Names.{V2, W1, Wr2, Verb, Lock, Read, Try, Unlock, Write, Sight}
+use Rattle.lk_domain.proofs.Names.{search_on, is_sole, is_free, is_unlocked, is_slow, Flagged}
+use Rattle.lk_domain.proofs.Names.{Linked, Met, Named, Number, Word, IsThen, led, Grip, Outlook}
+use Rattle.lk_domain.proofs.Names.{Takes, Unchanged, course, grip_led, grip_of, sight_by}
+use Rattle.lk_domain.proofs.Names.{looks_behind, arrives_by, claims_by, clears_by, frees_by}
+use Rattle.lk_domain.proofs.Names.{is_patient, is_take, is_watch, looks_by, pends_by, promotes_by}
+use Rattle.lk_domain.proofs.Names.{queues_up, soles_by, stakes_by, takes_by}
 use Rattle.lk_word.specs.SpinWord.{packed}
-use Rattle.lk_rows.specs.declared.parts.Frame.{Frame}
-use Rattle.lk_rows.specs.declared.parts.Pc.{Pc}
-use Rattle.lk_rows.specs.declared.parts.Flag.{Flag}
-use Rattle.lk_rows.specs.declared.parts.Pc.TheVariants.{F1, T1, T2, U1, V1, V2, P0, P1, P2, P3, P4}
-use Rattle.lk_rows.specs.declared.parts.Pc.TheVariants.{G1, G2, G3, G4, G5, G6, G7, G8, G9, G10, G11}
-use Rattle.lk_rows.specs.declared.parts.Pc.TheVariants.{N1, N2, E1, W1, R4, Wr2, C1, C2, C3, C5, C7, C8, C10}
-use Rattle.lk_rows.specs.declared.setup.Verb.{Verb}
-use Rattle.lk_rows.specs.declared.setup.Verb.TheVariants.{Lock, Try, Unlock, Read, Write}
-use Rattle.lk_rows.specs.Moves.{is_node, node_of}
-use Rattle.lk_rows.specs.Row.{Effect, Lead}
-use Rattle.lk_rows.specs.rows.Cna.{Sight, is_last, may_stay, search_first, search_on}
-use Rattle.lk_domain.specs.Calls.{Outlook, sight_by}
-use Rattle.lk_domain.specs.NodePlays.{looks_behind}
-use Rattle.lk_rows.specs.rows.Spin.{is_free, is_unlocked, after_fast, after_pending, to_queue}
+use Rattle.lk_rows.specs.declared.parts.Pc.TheVariants.{E1}
+use Rattle.lk_rows.specs.rows.Cna.{is_last, may_stay, search_first}
 use Rattle.lk_rows.specs.rows.Queue.{own_node, after_entry, after_arrival, after_look, after_head}
-use Rattle.lk_rows.specs.rows.Queue.{after_link, is_sole}
-use Rattle.lk_rows.specs.TopRow.{target}
-use Rattle.lk_law.specs.Families.{is_slow}
-use Rattle.lk_law.specs.Leads.{Met, Word, Number, Flagged, Linked, Named}
-use Rattle.lk_law.specs.Premises.{IsThen}
-use Rattle.lk_law.specs.Steps.{led}
-use Rattle.lk_domain.specs.Plans.{turns_by}
-use Rattle.lk_domain.specs.Calls.{Grip, Unchanged, Takes, grip_of, grip_led, course}
-use Rattle.lk_domain.specs.Rows.{is_watch, is_swap, queues_up, is_patient, take_holds}
-use Rattle.lk_domain.specs.Rows.{looks_by, takes_by, frees_by, is_look, is_take, looks_on}
-use Rattle.lk_domain.specs.Rows.{promotes_by, takes_on, pends_by, clears_by, claims_by, arrives_by, soles_by, stakes_by}
-use Rattle.lk_domain.specs.Rows as kind
+use Rattle.lk_rows.specs.{rows.Queue.after_link, rows.Spin.{after_fast, after_pending, to_queue}}
 use Rattle.lk_domain.proofs.words.Numbers.{free_test}
+use Rattle.lk_domain.specs.{Plans.turns_by, Rows.{is_swap, take_holds, is_look, looks_on, takes_on}}
+use Rattle.lk_domain.specs.Rows as kind
 
 -- The frame of a call that takes a lock goes on, in the slow path or outside it, or the call is over.
 abbrev pub Comes : Bool → Bool → Option Pc → Type 0

@@ -1,13 +1,10 @@
 -- The marks that a processor keeps are the locks that it holds.
-use Rattle.std.proofs.Common.{◌≡◌, ◌≢◌, inl, inr, ℕ, ◌+◌, ◌-◌, ◌<◌, ◌≤◌, List, length, get_or, set, replicate, Bool}
-use Rattle.std.proofs.Common.{true, false, refl, sym, ap, ◌∙◌, arith, length-set, get_or-set_other, get_or-set_same}
+use Rattle.std.proofs.Common.{◌≡◌, ◌≢◌, inl, inr, ℕ, ◌+◌, ◌-◌, ◌<◌, ◌≤◌, List, length, get_or, set}
+use Rattle.std.proofs.Common.{replicate, Bool, true, false, refl, sym, ap, ◌∙◌, arith, length-set}
+use Rattle.std.proofs.Common.{get_or-set_other, get_or-set_same, if◌then◌else◌}
+use Rattle.std.proofs.{Math.Dec.ltb, lemmas.Bool.{ltb-false, ltb-true}}
 use Rattle.std.proofs.lemmas.List.{get_or-replicate, get_or_past, length-replicate}
-use Rattle.std.proofs.Math.Dec.{ltb}
-use Rattle.std.proofs.lemmas.Bool.{cases_Bool, ltb-false, ltb-true}
-use Rattle.std.specs.Prelude.{if◌then◌else◌}
-use mathlib.Core.Logic.{dite}
-use native.Mathlib.Decide.{ℕ_discrete}
-use Rattle.lk_domain.specs.Marked.{Marks, near_with, far_with}
+use Rattle.lk_domain.proofs.Names.{cases_Bool, dite, ℕ_discrete, Marks, far_with, near_with}
 use Rattle.lk_domain.specs.declared.notes.TheConstants.{NEAR}
 
 -- what stands at a place of a list that is written, and elsewhere

@@ -1,19 +1,17 @@
 -- What a processor notes of its calls, after a step of one of them.
-use Rattle.std.proofs.Common.{◌≡◌, ◌≢◌, inl, inr, ℕ, ◌+◌, ◌-◌, ◌<◌, ◌≤◌, List, [], ◌∷◌, length, get_or, set}
-use Rattle.std.proofs.Common.{Bool, true, false, eqb, eq-eqb, ne_eqb, refl, sym, ap, ◌∙◌, subst, arith, ◌||◌, length-set}
-use Rattle.std.proofs.Common.{get_or-set_other, get_or-set_same}
-use Rattle.std.proofs.lemmas.Bool.{cases_eq}
-use Rattle.std.specs.Prelude.{not, if◌then◌else◌, ◌&&◌}
-use mir.Syntax.{w32}
-use mir.Val.{Fits, bool_byte}
+use Rattle.std.proofs.Common.{◌≡◌, ◌≢◌, inl, inr, ℕ, ◌+◌, ◌-◌, ◌<◌, ◌≤◌, List, [], ◌∷◌, length}
+use Rattle.std.proofs.Common.{get_or, set, Bool, true, false, eqb, eq-eqb, ne_eqb, refl, sym, ap}
+use Rattle.std.proofs.Common.{◌∙◌, subst, arith, ◌||◌, length-set, get_or-set_other}
+use Rattle.std.proofs.Common.{get_or-set_same, not, if◌then◌else◌, ◌&&◌, w32, Fits}
+use Rattle.lk_domain.proofs.Names.{cases_eq, if-false, if-true, is_slow, Calls, Running, holds_in}
+use Rattle.lk_domain.proofs.Names.{slow_in, slows, waits_in, IsNoted, Marks, Steps, far_with}
+use Rattle.lk_domain.proofs.Names.{near_with, Notes}
+use mir.Val.{bool_byte}
 use Rattle.lk_names.specs.ListOf.{ListOf}
-use Rattle.lk_law.specs.Families.{is_slow}
-use Rattle.lk_domain.specs.Calls.{Running, Calls, slows, waits_in, slow_in, holds_in}
-use Rattle.lk_domain.specs.Marked.{Marks, lock_in, path_in, AreOrdered, IsNoted, Behind, nobody, one, Steps, upto, near_with, far_with, with_mark}
-use Rattle.lk_domain.specs.declared.notes.Notes.{Notes}
-use Rattle.lk_law.proofs.common.Puts.{if-true, if-false}
-use Rattle.lk_domain.proofs.turns.Marks.{mark_set, mark_same}
 use Rattle.lk_domain.proofs.Turned.{behind_long, behind_slows, behind_waits, behind_slow}
+use Rattle.lk_domain.proofs.turns.Marks.{mark_set, mark_same}
+use Rattle.lk_domain.specs.Marked.{lock_in, path_in, AreOrdered, Behind, nobody, one, upto}
+use Rattle.lk_domain.specs.Marked.{with_mark}
 
 byte : (b : Bool) → bool_byte b ≡ (if b then 1 else 0)
 byte true = refl

@@ -1,41 +1,23 @@
 -- What the step calls do to the calls of their processor.
-use Rattle.std.proofs.Common.{◌≡◌, ◌⊎◌, inl, inr, ℕ, ◌≤◌, List, ◌∷◌, length, Some, Bool, true, false, eqb, refl, sym, ap, ◌∙◌, subst}
-use Rattle.std.proofs.Common.{◌||◌, Option}
-use Rattle.lk_word.specs.declared.spin_word.NodeName.{NodeName}
-use Rattle.std.specs.Prelude.{◌&&◌, not}
-use Rattle.atomic_table.specs.Table.{Me}
-use Rattle.lk_names.specs.declared.names.LockName.{LockName}
-use Rattle.lk_names.specs.declared.names.Mode.{Mode}
-use Rattle.lk_rows.specs.declared.parts.Frame.{Frame}
-use Rattle.lk_rows.specs.declared.parts.Flag.TheVariants.{Unset}
-use Rattle.lk_rows.specs.declared.parts.Pc.{Pc}
-use Rattle.lk_rows.specs.declared.parts.Pc.TheVariants.{U1, P1, P2, P4, G1, G4, G8, G9, G10, G11, C1, C2, C8, C10}
-use Rattle.lk_rows.specs.declared.setup.Verb.{Verb}
-use Rattle.lk_rows.specs.declared.setup.Verb.TheVariants.{Lock, Try, Read, Write}
-use Rattle.lk_rows.specs.rows.Queue.{is_sole}
-use Rattle.lk_rows.specs.TopRow.{target}
-use Rattle.lk_law.specs.Families.{is_slow}
-use Rattle.lk_law.specs.Leads.{Met, Word, Number, Flagged, Linked}
-use Rattle.lk_law.specs.Premises.{IsThen}
-use Rattle.lk_domain.specs.Calls.{Outlook}
-use Rattle.lk_domain.specs.Calls.{terms_of, Calls, Running, running, slow_in, slows, StandsOn, are_calls, row_of, acting, sight_of}
-use Rattle.lk_domain.specs.Keeps.{Slot}
-use Rattle.lk_domain.specs.Marked.{Steps}
-use Rattle.lk_domain.specs.NodePlays.{AtRow, Enters, Hands, looks_behind}
-use Rattle.lk_domain.specs.Plays.{ActsIn, MadeBy, Goes}
-use Rattle.lk_domain.specs.Rows.{looks_by, takes_by, frees_by, looks_on, takes_on, take_holds}
-use Rattle.lk_domain.specs.Rows.{pends_by, clears_by, claims_by, arrives_by, soles_by, stakes_by, promotes_by}
-use Rattle.lk_domain.specs.Rows.{queues_up, is_patient}
-use Rattle.lk_domain.specs.Views.{own_number}
-use Rattle.lk_domain.specs.declared.view.View.{View}
+use Rattle.std.proofs.Common.{◌≡◌, ◌⊎◌, inl, inr, ℕ, ◌≤◌, List, ◌∷◌, length, Some, Bool, true}
+use Rattle.std.proofs.Common.{false, eqb, refl, sym, ap, ◌∙◌, subst, ◌||◌, Option, ◌&&◌, not}
+use Rattle.lk_domain.proofs.Names.{Me, NodeName, LockName, Mode, target, Unset, Frame, Pc, C1, C2}
+use Rattle.lk_domain.proofs.Names.{C8, C10, G1, G4, G8, G9, G10, G11, P1, P2, P4, U1, Verb, Lock}
+use Rattle.lk_domain.proofs.Names.{Read, Try, Write, is_sole, is_slow, Flagged, Linked, Met, Number}
+use Rattle.lk_domain.proofs.Names.{Word, IsThen, Calls, Outlook, Running, StandsOn, acting}
+use Rattle.lk_domain.proofs.Names.{are_calls, row_of, running, sight_of, slow_in, slows, terms_of}
+use Rattle.lk_domain.proofs.Names.{Slot, Steps, Enters, Hands, looks_behind, ActsIn, MadeBy}
+use Rattle.lk_domain.proofs.Names.{arrives_by, claims_by, clears_by, frees_by, is_patient, looks_by}
+use Rattle.lk_domain.proofs.Names.{pends_by, promotes_by, queues_up, soles_by, stakes_by, takes_by}
+use Rattle.lk_domain.proofs.Names.{own_number, View}
 use Rattle.lk_domain.proofs.Acting.{acting_is, acts_on, begins_on}
+use Rattle.lk_domain.proofs.{Turned.{Turn, turn, is_opening, is_taking}, rows.Grips.IsOwn}
+use Rattle.lk_domain.proofs.turns.Courses.{Outcome, look_kind, take_kind, free_kind, pend_kind}
+use Rattle.lk_domain.proofs.turns.Courses.{clear_kind, claim_kind, arrive_kind, sole_kind}
+use Rattle.lk_domain.proofs.turns.Courses.{stake_kind, promote_kind}
+use Rattle.lk_domain.proofs.{words.Numbers.{look_on, take_on}, words.OnWords.{OnWord, on_word}}
+use Rattle.lk_domain.specs.{NodePlays.AtRow, Plays.Goes, Rows.{looks_on, takes_on, take_holds}}
 use Rattle.lk_domain.proofs.turns.Courses as course
-use Rattle.lk_domain.proofs.turns.Courses.{Outcome, look_kind, take_kind, free_kind}
-use Rattle.lk_domain.proofs.turns.Courses.{pend_kind, clear_kind, claim_kind, arrive_kind, sole_kind, stake_kind, promote_kind}
-use Rattle.lk_domain.proofs.rows.Grips.{IsOwn}
-use Rattle.lk_domain.proofs.words.Numbers.{look_on, take_on}
-use Rattle.lk_domain.proofs.words.OnWords.{OnWord, on_word}
-use Rattle.lk_domain.proofs.Turned.{Turn, turn, is_opening, is_taking}
 
 -- the operations take their locks
 

@@ -1,21 +1,14 @@
 -- What a step call of a call that goes on does is a use of the word.
 use Rattle.std.proofs.Common.{◌≡◌, ◌≢◌, Bool, true, false, refl, sym, ap, ◌∙◌}
-use Rattle.lk_names.specs.declared.names.LockName.{LockName}
-use Rattle.lk_rows.specs.declared.parts.Pc.{Pc}
-use Rattle.lk_rows.specs.declared.parts.Pc.TheVariants.{V1, P0, P1, P2, P3, P4, G2, G7, G9, N1}
-use Rattle.lk_rows.specs.declared.setup.Verb.{Verb}
-use Rattle.lk_rows.specs.declared.setup.Verb.TheVariants.{Lock, Try, Read, Write}
-use Rattle.lk_domain.specs.Calls.{Calls}
-use Rattle.lk_domain.specs.Keeps.{AllHome}
-use Rattle.lk_domain.specs.Plays.{ActsIn, ActsOn}
-use Rattle.lk_domain.specs.Rows.{is_watch, queues_up, looks_by, takes_by, frees_by, pends_by, clears_by, claims_by, stakes_by}
-use Rattle.lk_domain.specs.Uses.{uses, UsesWord}
-use Rattle.lk_domain.specs.declared.locks.moves.WordUse.{WordUse}
-use Rattle.lk_domain.specs.declared.locks.moves.WordUse.TheVariants.{Looks, Takes, Frees, Pends, Clears, Claims, Stakes}
-use Rattle.lk_domain.specs.declared.view.View.{View}
-use Rattle.lk_domain.proofs.Acting.{acting_now, is_first_of}
-use Rattle.lk_domain.proofs.turns.Courses.{free_kind}
-use Rattle.lk_domain.proofs.words.Onward.{watch_later, take_later, free_later, pend_later, clear_later, claim_later, stake_later, wait_last}
+use Rattle.lk_domain.proofs.Names.{LockName, Pc, G2, G7, G9, N1, P0, P1, P2, P3, P4, V1, Verb, Lock}
+use Rattle.lk_domain.proofs.Names.{Read, Try, Write, Calls, AllHome, ActsIn, ActsOn, claims_by}
+use Rattle.lk_domain.proofs.Names.{clears_by, frees_by, is_watch, looks_by, pends_by, queues_up}
+use Rattle.lk_domain.proofs.Names.{stakes_by, takes_by, Claims, Clears, Looks, Pends, Stakes, View}
+use Rattle.lk_domain.proofs.{Acting.{acting_now, is_first_of}, turns.Courses.free_kind}
+use Rattle.lk_domain.proofs.words.Onward.{watch_later, take_later, free_later, pend_later}
+use Rattle.lk_domain.proofs.words.Onward.{clear_later, claim_later, stake_later, wait_last}
+use Rattle.lk_domain.specs.{Uses.{uses, UsesWord}, declared.locks.moves.WordUse.WordUse}
+use Rattle.lk_domain.specs.declared.locks.moves.WordUse.TheVariants.{Takes, Frees}
 
 module _ (how : WordUse) (w : View) (v : Verb) (n : LockName) (kind : Pc → Bool) (acts : ActsOn kind w v n) where
   use_at : is_first_of acts.row v ≡ false → uses how acts.row ≡ true → UsesWord how n v w

@@ -1,47 +1,25 @@
 -- What the step calls on the words of locks ask.
-use Rattle.std.proofs.Common.{◌≡◌, ℕ, ◌<◌, get_or, set}
-use Rattle.std.proofs.Common.{Bool, true, IfSome, refl, sym, ap, ◌∙◌}
+use Rattle.std.proofs.Common.{◌≡◌, ℕ, ◌<◌, get_or, set, Bool, true, IfSome, refl, sym, ap, ◌∙◌}
 use Rattle.std.proofs.Common.{subst, arith}
 use Rattle.std.specs.Prelude.{unwrap_or}
-use mathlib.Core.Option.{some}
-use lib.ListN.{get_elem?}
-use Rattle.atomic_table.specs.Table.{State, Me, Step, keeps, Allows}
-use Rattle.lk_names.specs.declared.names.LockName.{LockName}
-use Rattle.lk_names.specs.declared.names.Mode.{Mode}
-use Rattle.lk_names.specs.declared.names.Waiter.{Waiter}
-use Rattle.lk_word.specs.declared.spin_word.Fields.{Fields}
-use Rattle.lk_word.specs.declared.spin_word.Layout.{Layout}
-use Rattle.lk_word.specs.SpinWord.{packed, IsPackable}
-use Rattle.lk_rows.specs.declared.parts.Frame.{Frame}
-use Rattle.lk_rows.specs.declared.parts.Pc.{Pc}
-use Rattle.lk_rows.specs.declared.setup.Verb.{Verb}
-use Rattle.lk_rows.specs.declared.setup.Verb.TheVariants.{Unlock, RUnlock, WUnlock}
-use Rattle.lk_rows.specs.TopRow.{target}
-use Rattle.lk_law.specs.Leads.{Word, course_in, held_lock}
-use Rattle.lk_law.specs.World.{World}
-use Rattle.lk_domain.specs.Calls.{terms_of, Calls, Frees, StandsOn, StandsAt, acting, begin, Begins, row_of}
-use Rattle.lk_domain.specs.Calls.{is_on, grip_of, lock_name}
-use Rattle.lk_domain.specs.Keeps.{Slot, Keeps, Knows, AllHome, any_count, sole_count}
-use Rattle.lk_domain.specs.Ledgers.{turned}
-use Rattle.lk_domain.specs.Plans.{locks_of, layout_in}
-use Rattle.lk_domain.specs.Plays.{Makes, MadeBy, Acts, made, turned_of}
-use Rattle.lk_domain.specs.Runs.{Runs, waiter}
-use Rattle.lk_domain.specs.Stand.{Stand}
-use Rattle.lk_domain.specs.Views.{IsNumbered, own_number}
-use Rattle.lk_domain.specs.Words.{OfLock, lock_at, word_at, IsNode}
-use Rattle.lk_domain.specs.declared.plan.Plan.{Plan}
-use Rattle.lk_domain.specs.declared.view.View.{View}
-use Rattle.lk_law.proofs.common.Puts.{if_cases}
-use Rattle.lk_domain.proofs.rows.Fresh as fresh
-use Rattle.lk_domain.proofs.journals.Held.{moved_any, moved_sole}
-use Rattle.lk_domain.proofs.rows.Grips.{own_lock}
-use Rattle.lk_domain.proofs.rows.Lands as lands
+use Rattle.lk_domain.proofs.Names.{Allows, Me, State, Step, keeps, get_elem?, some, IsPackable}
+use Rattle.lk_domain.proofs.Names.{Fields, Layout, LockName, Mode, Waiter, target, Frame, Pc, Verb}
+use Rattle.lk_domain.proofs.Names.{RUnlock, Unlock, WUnlock, if_cases, Word, course_in, held_lock}
+use Rattle.lk_domain.proofs.Names.{World, Begins, Calls, Frees, StandsOn, acting, begin, grip_of}
+use Rattle.lk_domain.proofs.Names.{is_on, lock_name, row_of, terms_of, AllHome, Keeps, Knows, Slot}
+use Rattle.lk_domain.proofs.Names.{any_count, sole_count, turned, layout_in, locks_of, Acts, MadeBy}
+use Rattle.lk_domain.proofs.Names.{made, turned_of, Runs, waiter, Stand, IsNumbered, own_number}
+use Rattle.lk_domain.proofs.Names.{IsNode, OfLock, lock_at, word_at, Plan, View}
+use Rattle.lk_word.specs.SpinWord.{packed}
+use Rattle.lk_domain.proofs.{Outs.acting_holds, journals.Held.{moved_any, moved_sole}}
+use Rattle.lk_domain.proofs.{journals.Purses.{alters_at, knows_after}, rows.Grips.own_lock}
 use Rattle.lk_domain.proofs.rows.Sights.{IsSeen}
-use Rattle.lk_domain.proofs.words.Written.{bare}
+use Rattle.lk_domain.proofs.words.OnWords.{OnWord, word_stores, on_word, word_seen, KnownHere}
+use Rattle.lk_domain.proofs.{words.OnWords.off_links, words.Written.bare}
+use Rattle.lk_domain.specs.{Calls.StandsAt, Plays.Makes}
+use Rattle.lk_domain.proofs.rows.Fresh as fresh
+use Rattle.lk_domain.proofs.rows.Lands as lands
 use Rattle.lk_domain.proofs.words.OnWords as on
-use Rattle.lk_domain.proofs.words.OnWords.{OnWord, word_stores, on_word, word_seen, KnownHere, off_links}
-use Rattle.lk_domain.proofs.Outs.{acting_holds}
-use Rattle.lk_domain.proofs.journals.Purses.{alters_at, knows_after}
 
 -- what a step that writes f of the word has to do with the row
 abbrev pub Writes : Layout → Pc → (ℕ → ℕ) → Type 0

@@ -1,10 +1,7 @@
 -- Where the words of locks stand in a table.
 use Rattle.std.proofs.Common.{◌≡◌, ◌<◌, ◌≤◌, Bool, true, false, refl, arith}
-use Rattle.lk_names.specs.declared.names.LockName.{LockName}
-use Rattle.lk_domain.specs.Plans.{locks_of}
-use Rattle.lk_domain.specs.Words.{balance_at, place_of, word_at}
-use Rattle.lk_domain.specs.declared.place.TheConstants.{FIRST_LOCK}
-use Rattle.lk_domain.specs.declared.plan.Plan.{Plan}
+use Rattle.lk_domain.proofs.Names.{LockName, locks_of, balance_at, word_at, Plan}
+use Rattle.lk_domain.specs.{Words.place_of, declared.place.TheConstants.FIRST_LOCK}
 
 pub word_from : (n : LockName) → FIRST_LOCK ≤ word_at n
 word_from n = by n.wait

@@ -1,14 +1,10 @@
 -- The words of a node.
 use Rattle.std.proofs.Common.{◌≡◌, ◌≢◌, ◌⊎◌, inl, inr, ℕ, ◌<◌, Bool, true, false, refl, arith}
-use Rattle.lk_names.specs.declared.names.Mode.{Mode}
-use Rattle.lk_word.specs.declared.spin_word.NodeName.{NodeName}
-use Rattle.lk_rows.specs.declared.parts.Node.{Node}
+use Rattle.lk_domain.proofs.Names.{NodeName, Mode, Node, has_part, is_last, node_at, node_number}
+use Rattle.lk_domain.proofs.Names.{part_index, stored_number, Part, Plan}
 use Rattle.lk_rows.specs.Machine.{rest_node}
 use Rattle.lk_domain.specs.Runs.{IsReset}
-use Rattle.lk_domain.specs.Words.{part_index, node_at, node_number, stored_number, has_part, is_last}
-use Rattle.lk_domain.specs.declared.part.Part.{Part}
 use Rattle.lk_domain.specs.declared.part.Part.TheVariants as part
-use Rattle.lk_domain.specs.declared.plan.Plan.{Plan}
 
 -- nothing is reset where no word is
 pub none_reset : (x : Node) → IsReset 0 x

@@ -1,30 +1,17 @@
 -- What the steps on a lock's word do to its number.
-use Rattle.std.proofs.Common.{◌≡◌, inl, inr, ℕ, ◌+◌, ◌-◌, ◌%◌, ◌^◌, ◌<◌, Option, Some, None}
-use Rattle.std.proofs.Common.{Bool, true, false, eqb, ne_eqb, refl, sym, ap, ◌∙◌, arith}
-use Rattle.std.proofs.lemmas.Bool.{cases_Bool}
-use Rattle.std.specs.Prelude.{if◌then◌else◌, unwrap_or, ◌&&◌, not, is_some}
-use prog.Atomic.{either}
-use Rattle.lk_names.specs.declared.names.Mode.{Mode}
-use Rattle.lk_word.specs.declared.spin_word.NodeName.{NodeName}
-use Rattle.lk_word.specs.declared.spin_word.Locked.{Locked}
-use Rattle.lk_word.specs.declared.spin_word.Locked.TheVariants.{Free, Held, Slow}
-use Rattle.lk_word.specs.declared.spin_word.Fields.{Fields}
-use Rattle.lk_word.specs.declared.spin_word.Layout.{Layout}
-use Rattle.lk_word.specs.declared.spin_word.Layout.TheVariants.{Narrow, Wide}
-use Rattle.lk_word.specs.SpinWord.{packed, IsPackable, locked_number, tail_number}
-use Rattle.lk_word.proofs.SpinWordLemmas.{packed_small}
-use Rattle.lk_rows.specs.declared.parts.Frame.{Frame}
-use Rattle.lk_rows.specs.declared.parts.Pc.{Pc}
-use Rattle.lk_rows.specs.declared.parts.Pc.TheVariants.{F1, T1, T2, U1, V1, V2, P0, P3, G2, G3}
-use Rattle.lk_rows.specs.declared.parts.Pc.TheVariants.{G7, N1, N2}
-use Rattle.lk_rows.specs.rows.Spin.{is_free, is_unlocked, held_word}
-use Rattle.lk_rows.specs.TopRow.{target}
-use Rattle.lk_law.specs.Leads.{course_in}
-use Rattle.lk_law.specs.World.{World}
-use Rattle.lk_names.specs.declared.names.Waiter.{Waiter}
-use Rattle.lk_domain.specs.Calls.{grip_of, Frees}
-use Rattle.lk_domain.specs.Rows as kind
+use Rattle.std.proofs.Common.{◌≡◌, inl, inr, ℕ, ◌+◌, ◌-◌, ◌%◌, ◌^◌, ◌<◌, Option, Some, None, Bool}
+use Rattle.std.proofs.Common.{true, false, eqb, ne_eqb, refl, sym, ap, ◌∙◌, arith, if◌then◌else◌}
+use Rattle.std.proofs.Common.{◌&&◌, not, is_some}
+use Rattle.std.specs.Prelude.{unwrap_or}
+use Rattle.lk_domain.proofs.Names.{cases_Bool, either, packed_small, IsPackable, locked_number}
+use Rattle.lk_domain.proofs.Names.{tail_number, Fields, Layout, Narrow, Wide, Locked, Free, Held}
+use Rattle.lk_domain.proofs.Names.{Slow, NodeName, Mode, Waiter, target, Frame, Pc, F1, G2, G3, G7}
+use Rattle.lk_domain.proofs.Names.{N1, N2, P0, P3, T1, T2, U1, V1, V2, is_free, is_unlocked}
+use Rattle.lk_domain.proofs.Names.{course_in, World, Frees, grip_of}
+use Rattle.lk_word.specs.SpinWord.{packed}
+use Rattle.lk_rows.specs.rows.Spin.{held_word}
 use Rattle.lk_domain.proofs.words.OnWords.{OnWord, word_stores, KnownHere}
+use Rattle.lk_domain.specs.Rows as kind
 
 -- which rows a kind of step makes
 

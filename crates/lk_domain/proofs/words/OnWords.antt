@@ -1,60 +1,29 @@
 -- The steps on the word of a lock.
-use Rattle.std.proofs.Common.{◌≡◌, ◌≢◌, inl, inr, ℕ, ◌<◌, List, set, Bool, true}
-use Rattle.std.proofs.Common.{get_or, Option, Some, None, false, refl, sym, ap, ◌∙◌}
-use Rattle.std.proofs.Common.{arith, IfSome}
-use Rattle.std.proofs.lemmas.Bool.{cases_lt, cases_eq}
-use Rattle.std.specs.Prelude.{unwrap_or, if◌then◌else◌}
-use mathlib.Core.Option.{Option as Maybe, some}
-use lib.ListN.{get_elem?}
-use Rattle.atomic_table.specs.Table.{State}
-use Rattle.lk_names.specs.Names.{same_lock}
-use Rattle.lk_names.specs.History.{LockHistory}
-use Rattle.lk_names.specs.declared.names.Kind.{Kind}
-use Rattle.lk_names.specs.declared.names.Mode.{Mode}
-use Rattle.lk_names.specs.declared.names.Waiter.{Waiter}
-use Rattle.lk_names.specs.declared.names.LockName.{LockName}
-use Rattle.lk_word.specs.declared.spin_word.NodeName.{NodeName}
-use Rattle.lk_word.specs.declared.spin_word.Fields.{Fields}
+use Rattle.std.proofs.Common.{◌≡◌, ◌≢◌, inl, inr, ℕ, ◌<◌, List, set, Bool, true, get_or, Option}
+use Rattle.std.proofs.Common.{Some, None, false, refl, sym, ap, ◌∙◌, arith, IfSome, if◌then◌else◌}
+use Rattle.std.proofs.lemmas.Bool.{cases_lt}
+use Rattle.std.specs.Prelude.{unwrap_or}
+use Rattle.lk_domain.proofs.Names.{cases_eq, State, get_elem?, some, IsPackable, Fields, NodeName}
+use Rattle.lk_domain.proofs.Names.{LockHistory, same_lock, Kind, LockName, Mode, Waiter, ChoiceWord}
+use Rattle.lk_domain.proofs.Names.{PvWord, QueueWord, SpinWord, Target, target, Frame, Pc, C1, C2}
+use Rattle.lk_domain.proofs.Names.{G1, H1, Verb, pv_row, if-true, same_lock-self, is_rw_row}
+use Rattle.lk_domain.proofs.Names.{may_halt, Word, enters, met_in, stored_in, looks_along, phase_at}
+use Rattle.lk_domain.proofs.Names.{IsSoundWorld, is_rw_name, World, Begins, StandsOn, acting}
+use Rattle.lk_domain.proofs.Names.{row_of, terms_of, cpus_of, kind_at, layout_in, locks_of, Runs}
+use Rattle.lk_domain.proofs.Names.{waiter, IsNode, OfLock, number_of, word_at, Plan, View}
+use mathlib.Core.Option.{Option as Maybe}
 use Rattle.lk_word.proofs.SpinWordLemmas.{from_narrow}
-use Rattle.lk_word.specs.RwWord.{packed_rw}
-use Rattle.lk_word.specs.SpinWord.{packed, IsPackable, IsTailInRange}
-use Rattle.lk_rows.specs.declared.parts.Frame.{Frame}
-use Rattle.lk_rows.specs.declared.parts.Pc.{Pc}
-use Rattle.lk_rows.specs.declared.parts.Pc.TheVariants.{G1, C1, C2, H1}
-use Rattle.lk_rows.specs.declared.setup.Verb.{Verb}
-use Rattle.lk_rows.specs.rows.Spin.{spin_row}
-use Rattle.lk_rows.specs.rows.Queue.{queue_row}
-use Rattle.lk_rows.specs.rows.Cna.{promotion_row}
-use Rattle.lk_rows.specs.TopRow.{Target, SpinWord, QueueWord, ChoiceWord, target, PvWord}
-use Rattle.lk_law.specs.Families.{is_rw_row, stays_awake, may_halt}
-use Rattle.lk_law.specs.Known.{Known, KnownHalting}
-use Rattle.lk_law.specs.Leads.{Word, met_in, stored_in, enters}
-use Rattle.lk_rows.specs.rows.Pv.{pv_row}
-use Rattle.lk_law.specs.SoundWorld.{IsSoundWorld, is_rw_name}
-use Rattle.lk_law.specs.Steps.{stores_word}
-use Rattle.lk_law.specs.World.{World}
-use Rattle.lk_law.proofs.common.Knows.{row_knows, tail_is_used}
+use Rattle.lk_word.specs.{RwWord.packed_rw, SpinWord.{packed, IsTailInRange}}
+use Rattle.lk_rows.specs.{rows.Cna.promotion_row, rows.Queue.queue_row, rows.Spin.spin_row}
+use Rattle.lk_law.proofs.{common.Knows.{row_knows, tail_is_used}, running.Calm.node_comes_at_entry}
 use Rattle.lk_law.proofs.running.Nodes.{here}
-use Rattle.lk_law.specs.Phase.{pends}
-use Rattle.lk_law.specs.Places.{phase_at}
-use Rattle.lk_law.proofs.common.Puts.{if-true}
-use Rattle.lk_law.proofs.common.Sames.{same_lock-self}
-use Rattle.lk_law.proofs.running.Calm.{node_comes_at_entry}
-use Rattle.lk_domain.specs.Calls.{terms_of, StandsOn, row_of, acting, Begins}
-use Rattle.lk_domain.specs.Plans.{cpus_of, kind_at, locks_of, layout_in}
-use Rattle.lk_domain.specs.Runs.{waiter, Runs}
-use Rattle.lk_domain.specs.Words.{OfLock, number_of, word_at, IsNode}
-use Rattle.lk_domain.specs.declared.plan.Plan.{Plan}
-use Rattle.lk_domain.specs.declared.view.View.{View}
-use Rattle.lk_domain.proofs.rows.Begun.{Elsewhere}
-use Rattle.lk_domain.proofs.rows.Lands as lands
-use Rattle.lk_domain.proofs.rows.Grips.{IsOwn, own_row, plain_name}
-use Rattle.lk_domain.proofs.rows.Changes.{IsAt}
-use Rattle.lk_domain.proofs.rows.Writes.{row_step}
-use Rattle.lk_domain.proofs.rows.Sights.{IsSeen, Sees}
-use Rattle.lk_domain.proofs.rows.Poised.{Poised}
+use Rattle.lk_law.specs.{Families.stays_awake, Known.{Known, KnownHalting}, Phase.pends}
+use Rattle.lk_law.specs.Steps.{stores_word}
+use Rattle.lk_domain.proofs.{rows.Begun.Elsewhere, rows.Changes.IsAt}
+use Rattle.lk_domain.proofs.{rows.Grips.{IsOwn, own_row, plain_name}, rows.Poised.Poised}
+use Rattle.lk_domain.proofs.{rows.Sights.{IsSeen, Sees}, rows.Writes.row_step}
 use Rattle.lk_domain.proofs.seats.Totals.{drawn, nobodys}
-use Rattle.lk_law.specs.Nodes.{looks_along}
+use Rattle.lk_domain.proofs.rows.Lands as lands
 
 -- what is known of the word that a row meets: by one of a family that halts no processor, and by one of
 -- the lock that halts them

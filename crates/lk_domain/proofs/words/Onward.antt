@@ -1,33 +1,16 @@
 -- What the step calls ask of a call that goes on, on the word of a spinlock or a wait lock.
-use Rattle.std.proofs.Common.{◌≡◌, ℕ, ◌<◌, Bool, true, false, refl, sym, ap, ◌∙◌, subst}
-use Rattle.std.specs.Prelude.{◌&&◌, not}
-use Rattle.atomic_table.specs.Table.{Me, Allows}
-use Rattle.lk_names.specs.declared.names.LockName.{LockName}
-use Rattle.lk_rows.specs.declared.parts.Frame.{Frame}
-use Rattle.lk_rows.specs.declared.parts.Pc.{Pc}
-use Rattle.lk_rows.specs.declared.parts.Pc.TheVariants.{F1, U1, V1, V2, P0, P1, P2, P3, P4, G2, G3}
-use Rattle.lk_rows.specs.declared.parts.Pc.TheVariants.{G4, G7, G8, G9, N1, N2, C10}
-use Rattle.lk_rows.specs.declared.setup.Verb.{Verb}
-use Rattle.lk_rows.specs.declared.setup.Verb.TheVariants.{Lock, Read, Write}
-use Rattle.lk_rows.specs.TopRow.{target}
-use Rattle.lk_law.specs.Leads.{Word}
-use Rattle.lk_domain.specs.Calls.{Calls, acting}
-use Rattle.lk_domain.specs.Keeps.{AllHome, Slot}
-use Rattle.lk_domain.specs.Ledgers.{is_first}
-use Rattle.lk_domain.specs.Plans.{locks_of, layout_in}
-use Rattle.lk_domain.specs.Plays.{ActsOn, MadeBy, WentBy, rowed}
-use Rattle.lk_domain.specs.Rows.{queues_up, is_patient, is_watch, looks_by, takes_by, frees_by, pends_by}
-use Rattle.lk_domain.specs.Rows.{clears_by, claims_by, arrives_by, soles_by, stakes_by, promotes_by}
-use Rattle.lk_domain.specs.Stand.{Stand}
-use Rattle.lk_domain.specs.Uses.{AtWord}
-use Rattle.lk_domain.specs.Views.{IsNumbered}
-use Rattle.lk_domain.specs.Words.{word_at}
-use Rattle.lk_domain.specs.declared.plan.Plan.{Plan}
-use Rattle.lk_domain.specs.declared.view.View.{View}
+use Rattle.std.proofs.Common.{◌≡◌, ℕ, ◌<◌, Bool, true, false, refl, sym, ap, ◌∙◌, subst, ◌&&◌, not}
+use Rattle.lk_domain.proofs.Names.{Allows, Me, LockName, target, Frame, Pc, C10, F1, G2, G3, G4, G7}
+use Rattle.lk_domain.proofs.Names.{G8, G9, N1, N2, P0, P1, P2, P3, P4, U1, V1, V2, Verb, Lock, Read}
+use Rattle.lk_domain.proofs.Names.{Write, Word, Calls, acting, AllHome, Slot, is_first, layout_in}
+use Rattle.lk_domain.proofs.Names.{locks_of, ActsOn, MadeBy, arrives_by, claims_by, clears_by}
+use Rattle.lk_domain.proofs.Names.{frees_by, is_patient, is_watch, looks_by, pends_by, promotes_by}
+use Rattle.lk_domain.proofs.Names.{queues_up, soles_by, stakes_by, takes_by, Stand, IsNumbered}
+use Rattle.lk_domain.proofs.Names.{word_at, Plan, View}
 use Rattle.lk_domain.proofs.Acting.{is_first_of, acting_now, acts_on, begins_on}
+use Rattle.lk_domain.proofs.{words.LockPlays.{MayFree, WritesAt, plays_on}, words.OnWords.OnWord}
+use Rattle.lk_domain.specs.{Plays.{WentBy, rowed}, Uses.AtWord}
 use Rattle.lk_domain.proofs.words.LockPlays as plays
-use Rattle.lk_domain.proofs.words.LockPlays.{MayFree, WritesAt, plays_on}
-use Rattle.lk_domain.proofs.words.OnWords.{OnWord}
 
 -- which rows are no first ones
 

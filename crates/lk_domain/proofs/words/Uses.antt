@@ -1,54 +1,28 @@
 -- What each use of the word of a spinlock or a wait lock writes, and that it is what the row stores.
-use Rattle.std.proofs.Common.{◌≡◌, ◌≢◌, inl, inr, ℕ, ◌+◌, ◌-◌, ◌*◌, ◌%◌, ◌^◌, ◌<◌, Option, Some, None}
-use Rattle.std.proofs.Common.{Bool, true, false, eqb, refl, sym, ap, ◌∙◌, subst, arith}
-use Rattle.std.proofs.lemmas.Bool.{cases_Bool}
-use Rattle.std.proofs.lemmas.Nat.{or_block}
-use Rattle.std.specs.Int.Bits.{bit_or, or_zero_r}
-use Rattle.std.specs.Prelude.{unwrap_or, if◌then◌else◌}
-use prog.Atomic.{either}
-use Rattle.atomic_table.specs.Seated.{TableId}
-use Rattle.atomic_table.specs.Table.{Me, Allows}
-use Rattle.lk_names.specs.declared.names.LockName.{LockName}
-use Rattle.lk_names.specs.declared.names.Mode.{Mode}
-use Rattle.lk_word.specs.declared.spin_word.NodeName.{NodeName}
-use Rattle.lk_word.specs.declared.spin_word.Fields.{Fields}
-use Rattle.lk_word.specs.declared.spin_word.Locked.{Locked}
-use Rattle.lk_word.specs.declared.spin_word.Locked.TheVariants.{Free, Held, Slow}
-use Rattle.lk_word.specs.declared.spin_word.Layout.{Layout}
-use Rattle.lk_word.specs.declared.spin_word.Layout.TheVariants.{Narrow, Wide}
-use Rattle.lk_word.specs.SpinWord.{packed, IsPackable, locked_number, tail_number}
-use Rattle.lk_word.proofs.SpinWordLemmas.{packed_small}
-use Rattle.lk_rows.specs.Row.{Effect}
-use Rattle.lk_rows.specs.TopRow.{target}
-use Rattle.lk_rows.specs.declared.parts.Frame.{Frame}
-use Rattle.lk_rows.specs.declared.parts.Pc.{Pc}
-use Rattle.lk_rows.specs.declared.parts.Pc.TheVariants.{F1, U1, V1, V2, P0, P1, P2, P3, P4, G2, G3, G7, G9, N1, N2}
-use Rattle.lk_rows.specs.declared.parts.Pc.TheVariants.{H1, E3, E5, E7, E8, E11, K2, U4}
-use Rattle.lk_rows.specs.declared.setup.Verb.{Verb}
-use Rattle.lk_rows.specs.rows.Pv.{pv_row}
-use Rattle.lk_rows.specs.rows.Spin.{is_unlocked}
-use Rattle.lk_domain.specs.Calls.{Frees as FreesLock, grip_led}
-use Rattle.lk_domain.specs.Keeps.{AllHome, Slot}
-use Rattle.lk_domain.specs.NodePlays.{InCall}
-use Rattle.lk_domain.specs.Plans.{locks_of, layout_in}
-use Rattle.lk_domain.specs.Plays.{MadeBy, WentBy}
-use Rattle.lk_domain.specs.Seated.{IsTableOf}
-use Rattle.lk_domain.specs.Stand.{Stand}
-use Rattle.lk_domain.specs.Uses.{uses, frees, UsesWord}
-use Rattle.lk_domain.specs.Views.{IsNumbered}
-use Rattle.lk_domain.specs.Words.{word_at}
-use Rattle.lk_domain.specs.declared.locks.moves.WordUse.{WordUse}
-use Rattle.lk_domain.specs.declared.locks.moves.WordUse.TheVariants.{Looks, Takes, Frees, Pends, Clears, Claims, Stakes}
-use Rattle.lk_domain.specs.declared.locks.moves.WordUse.TheVariants.{Slows, Wins, Signs, Drops}
-use Rattle.lk_domain.specs.declared.plan.Plan.{Plan}
-use Rattle.lk_domain.specs.declared.view.View.{View}
-use Rattle.lk_domain.proofs.Acting.{acting_is}
-use Rattle.lk_domain.proofs.queue.Pending.{pends, clears, claims, stakes}
-use Rattle.lk_domain.proofs.words.LockPlays.{MayFree}
-use Rattle.lk_domain.proofs.words.Locks.{word_below}
+use Rattle.std.proofs.Common.{◌≡◌, ◌≢◌, inl, inr, ℕ, ◌+◌, ◌-◌, ◌*◌, ◌%◌, ◌^◌, ◌<◌, Option, Some}
+use Rattle.std.proofs.Common.{None, Bool, true, false, eqb, refl, sym, ap, ◌∙◌, subst, arith}
+use Rattle.std.proofs.Common.{if◌then◌else◌}
+use Rattle.std.specs.Prelude.{unwrap_or}
+use Rattle.lk_domain.proofs.Names.{cases_Bool, or_block, bit_or, or_zero_r, TableId, Allows, Me}
+use Rattle.lk_domain.proofs.Names.{either, packed_small, IsPackable, locked_number, tail_number}
+use Rattle.lk_domain.proofs.Names.{Fields, Layout, Narrow, Wide, Locked, Free, Held, Slow, NodeName}
+use Rattle.lk_domain.proofs.Names.{LockName, Mode, Effect, target, Frame, Pc, F1, G2, G3, G7, G9}
+use Rattle.lk_domain.proofs.Names.{H1, N1, N2, P0, P1, P2, P3, P4, U1, U4, V1, V2, Verb, pv_row}
+use Rattle.lk_domain.proofs.Names.{is_unlocked, grip_led, AllHome, Slot, layout_in, locks_of}
+use Rattle.lk_domain.proofs.Names.{MadeBy, Stand, IsNumbered, word_at, Claims, Clears, Looks, Pends}
+use Rattle.lk_domain.proofs.Names.{Stakes, Plan, View}
+use Rattle.lk_word.specs.SpinWord.{packed}
+use Rattle.lk_rows.specs.declared.parts.Pc.TheVariants.{E3, E5, E7, E8, E11, K2}
+use Rattle.lk_domain.proofs.{Acting.acting_is, queue.Pending.{pends, clears, claims, stakes}}
+use Rattle.lk_domain.proofs.{words.LockPlays.MayFree, words.Locks.word_below}
 use Rattle.lk_domain.proofs.words.Numbers.{looks, takes, take_frees, releases}
-use Rattle.lk_domain.proofs.words.Onward.{acts_at, asks_on, made_on}
 use Rattle.lk_domain.proofs.words.OnWords.{OnWord, word_stores, KnownHere}
+use Rattle.lk_domain.proofs.words.Onward.{acts_at, asks_on, made_on}
+use Rattle.lk_domain.specs.{Calls.Frees as FreesLock, NodePlays.InCall, Plays.WentBy}
+use Rattle.lk_domain.specs.{Seated.IsTableOf, Uses.{uses, frees, UsesWord}}
+use Rattle.lk_domain.specs.declared.locks.moves.WordUse.{WordUse}
+use Rattle.lk_domain.specs.declared.locks.moves.WordUse.TheVariants.{Takes, Frees, Slows, Wins}
+use Rattle.lk_domain.specs.declared.locks.moves.WordUse.TheVariants.{Signs, Drops}
 
 -- the rows are on the word of their lock
 use_on : (how : WordUse) (c : Pc) (f : Frame) → uses how c ≡ true → OnWord (target c f)

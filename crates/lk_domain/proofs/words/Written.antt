@@ -1,26 +1,17 @@
 -- No two words of the locks stand at one place, so a step that writes one leaves the others.
-use Rattle.std.proofs.Common.{◌≡◌, ◌≢◌, inl, inr, ℕ, ◌+◌, ◌*◌, ◌<◌, ◌≤◌, List, set, get_or, Bool, true}
-use Rattle.std.proofs.Common.{refl, sym, ap, ◌∙◌, arith, length-set, get_or-set_other, get_or-set_same}
-use Rattle.std.proofs.lemmas.Bool.{cases_eq}
-use Rattle.std.specs.Prelude.{if◌then◌else◌}
-use Rattle.lk_word.specs.RwWord.{packed_rw}
-use Rattle.lk_word.specs.SpinWord.{packed}
-use Rattle.lk_word.specs.declared.spin_word.NodeName.{NodeName}
-use Rattle.lk_rows.specs.declared.parts.Node.{Node}
-use Rattle.lk_law.specs.Agree.{halts}
-use Rattle.lk_law.specs.SoundWorld.{is_rw_name}
-use Rattle.lk_law.specs.World.{World}
-use Rattle.lk_domain.specs.Plans.{accounts_of, cpus_of, kind_at, layout_in}
-use Rattle.lk_domain.specs.Runs.{IsStored}
-use Rattle.lk_domain.specs.Values.{homes_of}
-use Rattle.lk_domain.specs.Words.{Place, OfLock, OfNode, OfState, OfHash, OfKick, place_at, IsPlace, is_read}
-use Rattle.lk_domain.specs.Words.{number_of, with_mark, far_of, words_of, version_at, balance_at, state_at}
-use Rattle.lk_domain.specs.Words.{node_number, state_number, mark_number}
-use Rattle.lk_domain.specs.Words.{first_node, hash_at, kick_at}
-use Rattle.lk_domain.specs.declared.place.TheConstants.{FIRST_LOCK, HALTING_WORDS}
-use Rattle.lk_domain.specs.declared.plan.Plan.{Plan}
+use Rattle.std.proofs.Common.{◌≡◌, ◌≢◌, inl, inr, ℕ, ◌+◌, ◌*◌, ◌<◌, ◌≤◌, List, set, get_or, Bool}
+use Rattle.std.proofs.Common.{true, refl, sym, ap, ◌∙◌, arith, length-set, get_or-set_other}
+use Rattle.std.proofs.Common.{get_or-set_same, if◌then◌else◌}
+use Rattle.lk_domain.proofs.Names.{cases_eq, NodeName, Node, halts, is_rw_name, World, accounts_of}
+use Rattle.lk_domain.proofs.Names.{cpus_of, kind_at, layout_in, IsStored, homes_of, IsPlace, OfLock}
+use Rattle.lk_domain.proofs.Names.{OfNode, OfState, Place, balance_at, node_number, number_of}
+use Rattle.lk_domain.proofs.Names.{place_at, state_number, version_at, with_mark, words_of, Plan}
+use Rattle.lk_word.specs.{RwWord.packed_rw, SpinWord.packed}
 use Rattle.lk_domain.proofs.words.Locks.{word_from, word_below, name_one}
 use Rattle.lk_domain.proofs.words.NodeWords.{low, name_is, part_at}
+use Rattle.lk_domain.specs.Words.{OfHash, OfKick, is_read, far_of, state_at, mark_number}
+use Rattle.lk_domain.specs.Words.{first_node, hash_at, kick_at}
+use Rattle.lk_domain.specs.declared.place.TheConstants.{FIRST_LOCK, HALTING_WORDS}
 
 -- where processors halt, all words have room
 pub far_words : (k : Plan) → halts k.mode ≡ true → words_of k ≡ far_of k + HALTING_WORDS * cpus_of k + homes_of k

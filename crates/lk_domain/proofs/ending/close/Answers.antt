@@ -1,7 +1,6 @@
 use Rattle.std.proofs.Common.{sym, arith}
-use Rattle.lk_domain.specs.Seats.{view_of}
-use Rattle.lk_domain.proofs.Seating.{table_of}
-use Rattle.lk_domain.proofs.journals.Heirs.{has_all, final}
+use Rattle.lk_domain.proofs.Names.{view_of}
+use Rattle.lk_domain.proofs.{Seating.table_of, journals.Heirs.{has_all, final}}
 use Rattle.lk_domain.proofs.ending.close.Goals as goal
 
 pub end-journal-requires-clause-table : goal.end-journal-requires-clause-table

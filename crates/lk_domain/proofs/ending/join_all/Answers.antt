@@ -1,12 +1,8 @@
 use Rattle.std.proofs.Common.{◌≡◌, ◌<◌, length, List, ap, sym, ◌∙◌, subst, arith}
-use Rattle.lk_domain.specs.Ends.{HasFrom, Rests}
-use Rattle.lk_domain.specs.Seats.{view_of, ledger_of}
-use Rattle.lk_domain.specs.Views.{all_past}
-use Rattle.lk_domain.specs.Who.{Who}
-use Rattle.lk_domain.specs.declared.cpu.Cpu.{Cpu}
-use Rattle.lk_domain.specs.declared.view.View.{View}
+use Rattle.lk_domain.proofs.Names.{view_of, all_past, Who, Cpu, View}
 use Rattle.lk_domain.proofs.Seating.{table_of, seat_in}
 use Rattle.lk_domain.proofs.journals.Heirs.{first_heir, next_heir, popped, last_popped, popped_is}
+use Rattle.lk_domain.specs.{Ends.{HasFrom, Rests}, Seats.ledger_of}
 use Rattle.lk_domain.proofs.ending.join_all.Goals as goal
 
 pub loop-cpus-init : goal.loop-cpus-init

@@ -1,7 +1,6 @@
 use Rattle.std.proofs.Common.{◌≡◌, ◌<◌, take, length, [], None}
-use Rattle.lk_domain.specs.Ends.{HasFrom}
-use Rattle.lk_domain.specs.Seated.{IsSeatOf}
-use Rattle.lk_domain.specs.Views.{all_past}
+use Rattle.lk_domain.proofs.Names.{all_past}
+use Rattle.lk_domain.specs.{Ends.HasFrom, Seated.IsSeatOf}
 use Rattle.lk_domain.proofs.ending.join_all.Given as goal
 
 abbrev pub decreases-loop-cpus : goal.decreases-loop-cpus

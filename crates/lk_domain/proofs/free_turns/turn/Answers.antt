@@ -1,9 +1,7 @@
 use Rattle.std.proofs.Common.{ℕ, ap, ◌∙◌, subst, sym}
-use Rattle.lk_domain.specs.Calls.{are_calls}
-use Rattle.lk_domain.specs.Plans.{locks_of}
-use Rattle.lk_domain.specs.Values.{IsHomeAt}
-use Rattle.lk_domain.proofs.FreeTurns as free
+use Rattle.lk_domain.proofs.Names.{are_calls, locks_of, IsHomeAt}
 use Rattle.lk_domain.proofs.Seating.{apart_of, low_of, noted_of}
+use Rattle.lk_domain.proofs.FreeTurns as free
 use Rattle.lk_domain.proofs.free_turns.turn.Goals as goal
 
 pub take-met-requires-clause-row : goal.take-met-requires-clause-row

@@ -1,5 +1,5 @@
 use Rattle.std.proofs.Common.{ℕ, sym, subst}
-use Rattle.lk_domain.specs.Values.{IsHomeAt}
+use Rattle.lk_domain.proofs.Names.{IsHomeAt}
 use Rattle.lk_domain.proofs.FreeTurns.{within_reach}
 use Rattle.lk_domain.proofs.free_turns.work_held.Goals as goal
 

@@ -1,6 +1,5 @@
 use Rattle.std.proofs.Common.{◌≡◌, ◌∷◌, ◌++◌, map, reverse, length, Some}
-use Rattle.lk_domain.specs.Values.{lodged}
-use Rattle.lk_domain.specs.declared.slot.Stowed.TheVariants.{Entries}
+use Rattle.lk_domain.proofs.Names.{lodged, Entries}
 use Rattle.lk_domain.proofs.making.opening_slots.Given as goal
 
 abbrev pub decreases-loop-slots : goal.decreases-loop-slots

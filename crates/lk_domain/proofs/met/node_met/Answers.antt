@@ -1,5 +1,5 @@
 use Rattle.std.proofs.Common.{◌%◌, Some, sym, ap, ◌∙◌, arith}
-use Rattle.lk_word.specs.declared.spin_word.NodeName.{NodeName}
+use Rattle.lk_domain.proofs.Names.{NodeName}
 use Rattle.lk_domain.proofs.Mets.{no_link, some_link, small_link, name_is}
 use Rattle.lk_domain.proofs.met.node_met.Goals as goal
 

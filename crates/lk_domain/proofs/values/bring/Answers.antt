@@ -1,14 +1,8 @@
 use Rattle.std.proofs.Common.{refl, sym, ap, ◌∙◌, ◌≡◌, ◌+◌, ◌∷◌, List, ℕ, Some, None, arith, get_or}
-use mathlib.Core.Option.{none}
-use Rattle.atomic_table.specs.Table.{step, Me, rest}
-use Rattle.lk_domain.specs.Keeps.{Slot}
-use Rattle.lk_domain.specs.Plays.{carried_with, carried_of}
-use Rattle.lk_domain.specs.Values.{bringing, empty_places, lock_of, older}
-use Rattle.lk_domain.specs.Words.{quiet_at}
-use Rattle.lk_domain.specs.declared.plan.Plan.{Plan}
-use Rattle.lk_domain.specs.declared.slot.Stowed.TheVariants.{CellKey}
-use Rattle.lk_domain.specs.declared.view.View.{View}
+use Rattle.lk_domain.proofs.Names.{Me, rest, step, none, Slot, carried_of, carried_with, bringing}
+use Rattle.lk_domain.proofs.Names.{empty_places, lock_of, quiet_at, Plan, CellKey, View}
 use Rattle.lk_domain.proofs.seats.Takes.{brings_value, cell_below}
+use Rattle.lk_domain.specs.Values.{older}
 use Rattle.lk_domain.proofs.values.bring.Goals as goal
 
 pub quiet_word-word-requires-clause-low : goal.quiet_word-word-requires-clause-low

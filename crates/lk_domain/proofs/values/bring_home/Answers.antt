@@ -1,12 +1,7 @@
 use Rattle.std.proofs.Common.{◌≡◌, ℕ, refl, sym, ap, ◌∙◌, subst, false}
-use Rattle.lk_law.specs.Agree.{halts}
-use Rattle.lk_domain.specs.Calls.{are_calls}
-use Rattle.lk_domain.specs.Marked.{IsNoted}
-use Rattle.lk_domain.specs.Plans.{locks_of}
-use Rattle.lk_domain.specs.Values.{IsNewestAt, bringing, lock_of}
-use Rattle.lk_domain.specs.declared.view.View.{View}
-use Rattle.lk_domain.proofs.Seating.{table_of, seat_in}
-use Rattle.lk_domain.proofs.seats.Homes.{own_lock}
+use Rattle.lk_domain.proofs.Names.{halts, are_calls, IsNoted, locks_of, IsNewestAt, bringing}
+use Rattle.lk_domain.proofs.Names.{lock_of, View}
+use Rattle.lk_domain.proofs.{Seating.{table_of, seat_in}, seats.Homes.own_lock}
 use Rattle.lk_domain.proofs.seats.Marks.{mark_noted}
 use Rattle.lk_domain.proofs.values.bring_home.Goals as goal
 

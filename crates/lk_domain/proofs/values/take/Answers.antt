@@ -1,13 +1,7 @@
 use Rattle.std.proofs.Common.{refl, sym, ap, subst, ◌∙◌, ◌≡◌, ◌+◌, ◌∷◌, List, ℕ, Some, None, arith}
-use mathlib.Core.Option.{none}
-use Rattle.atomic_table.specs.Table.{step, Me, rest}
-use Rattle.lk_domain.specs.Keeps.{Slot}
-use Rattle.lk_domain.specs.Plays.{carried_with, carried_of}
-use Rattle.lk_domain.specs.Values.{IsClear, IsKeyOf, empty_places, lock_of, taking}
-use Rattle.lk_domain.specs.Words.{quiet_at}
-use Rattle.lk_domain.specs.declared.plan.Plan.{Plan}
-use Rattle.lk_domain.specs.declared.slot.Stowed.TheVariants.{Entries, CellKey}
-use Rattle.lk_domain.specs.declared.view.View.{View}
+use Rattle.lk_domain.proofs.Names.{Me, rest, step, none, Slot, carried_of, carried_with, IsClear}
+use Rattle.lk_domain.proofs.Names.{IsKeyOf, empty_places, lock_of, taking, quiet_at, Plan, CellKey}
+use Rattle.lk_domain.proofs.Names.{Entries, View}
 use Rattle.lk_domain.proofs.seats.Takes.{takes_value, cell_below}
 use Rattle.lk_domain.proofs.seats.Worked.{head_is, same_head, same_key}
 use Rattle.lk_domain.proofs.values.take.Goals as goal

@@ -1,13 +1,7 @@
 use Rattle.std.proofs.Common.{◌≡◌, ℕ, refl, sym, ap, ◌∙◌, subst, true, false}
-use Rattle.lk_law.specs.Agree.{halts}
-use Rattle.lk_domain.specs.Calls.{are_calls}
-use Rattle.lk_domain.specs.Marked.{IsNoted}
-use Rattle.lk_domain.specs.Plans.{locks_of}
-use Rattle.lk_domain.specs.Values.{IsClear, lock_of, taking}
-use Rattle.lk_domain.specs.declared.plan.Plan.{Plan}
-use Rattle.lk_domain.specs.declared.view.View.{View}
-use Rattle.lk_domain.proofs.Seating.{table_of, seat_in}
-use Rattle.lk_domain.proofs.seats.Homes.{alone_at, own_lock}
+use Rattle.lk_domain.proofs.Names.{halts, are_calls, IsNoted, locks_of, IsClear, lock_of, taking}
+use Rattle.lk_domain.proofs.Names.{Plan, View}
+use Rattle.lk_domain.proofs.{Seating.{table_of, seat_in}, seats.Homes.{alone_at, own_lock}}
 use Rattle.lk_domain.proofs.seats.Marks.{mark_noted}
 use Rattle.lk_domain.proofs.values.take_out.Goals as goal
 

@@ -1,5 +1,5 @@
 use Rattle.std.proofs.Common.{ℕ, sym, subst}
-use Rattle.lk_domain.specs.Values.{IsHomeAt}
+use Rattle.lk_domain.proofs.Names.{IsHomeAt}
 use Rattle.lk_domain.proofs.seats.Homes.{copy_held}
 use Rattle.lk_domain.proofs.values.with_copy.Goals as goal
 

@@ -1,14 +1,6 @@
 use Rattle.std.proofs.Common.{refl, sym, ap, subst, ◌∙◌, ◌≡◌, ◌+◌, ◌∷◌, Some, arith}
-use mathlib.Core.Option.{none}
-use Rattle.atomic_table.specs.Table.{step, Me, rest}
-use Rattle.lk_domain.specs.Keeps.{Slot}
-use Rattle.lk_domain.specs.Plays.{carried_of}
-use Rattle.lk_domain.specs.Values.{IsKeyOf}
-use Rattle.lk_domain.specs.Views.{IsNumbered}
-use Rattle.lk_domain.specs.Words.{quiet_at}
-use Rattle.lk_domain.specs.declared.plan.Plan.{Plan}
-use Rattle.lk_domain.specs.declared.slot.Stowed.TheVariants.{CellKey}
-use Rattle.lk_domain.specs.declared.view.View.{View}
+use Rattle.lk_domain.proofs.Names.{Me, rest, step, none, Slot, carried_of, IsKeyOf, IsNumbered}
+use Rattle.lk_domain.proofs.Names.{quiet_at, Plan, CellKey, View}
 use Rattle.lk_domain.proofs.seats.Takes.{takes_value, brings_value, cell_below}
 use Rattle.lk_domain.proofs.seats.Worked.{came_back, head_is, same_head, same_key, taken_newest}
 use Rattle.lk_domain.proofs.values.work_at.Goals as goal

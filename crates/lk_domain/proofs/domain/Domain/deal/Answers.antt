@@ -1,17 +1,7 @@
 use Rattle.std.proofs.Common.{sym, ap, arith, ◌∙◌, [], Some, subst}
-use mathlib.Core.Option.{none}
-use Rattle.atomic_table.specs.Table.{step, Me}
-use Rattle.lk_law.specs.Agree.{halts}
-use Rattle.lk_domain.specs.Calls.{no_calls, are_calls}
-use Rattle.lk_domain.specs.Keeps.{Slot}
-use Rattle.lk_domain.specs.Marked.{IsNoted}
-use Rattle.lk_domain.specs.Plans.{locks_of}
-use Rattle.lk_domain.specs.Plays.{carried_with, carried_of}
-use Rattle.lk_domain.specs.Views.{dealer, view}
-use Rattle.lk_domain.specs.declared.plan.Plan.{Plan}
-use Rattle.lk_domain.specs.declared.view.View.{View}
-use Rattle.lk_domain.proofs.seats.Dealt.{draws, drawn_by}
-use Rattle.lk_domain.proofs.seats.Parted.{splits_at}
+use Rattle.lk_domain.proofs.Names.{Me, step, none, halts, are_calls, no_calls, Slot, IsNoted}
+use Rattle.lk_domain.proofs.Names.{locks_of, carried_of, carried_with, dealer, view, Plan, View}
+use Rattle.lk_domain.proofs.{seats.Dealt.{draws, drawn_by}, seats.Parted.splits_at}
 use Rattle.lk_domain.proofs.domain.Domain.deal.Goals as goal
 
 pub fetch_add-number-requires : goal.fetch_add-number-requires

@@ -1,9 +1,6 @@
 use Rattle.std.proofs.Common.{◌≡◌, length}
-use Rattle.lk_domain.specs.Calls.{no_calls}
-use Rattle.lk_domain.specs.Ledgers.{no_ledger}
-use Rattle.lk_domain.specs.Plans.{cpus_of}
+use Rattle.lk_domain.proofs.Names.{no_calls, no_ledger, cpus_of, dealer, view}
 use Rattle.lk_domain.specs.Seats.{AreDealt}
-use Rattle.lk_domain.specs.Views.{view, dealer}
 use Rattle.lk_domain.proofs.domain.Domain.open.Given as goal
 
 abbrev pub invariant-loop-number : goal.invariant-loop-number

@@ -1,5 +1,5 @@
 use Rattle.std.proofs.Common.{refl, ap, ◌∙◌}
-use Rattle.lk_domain.specs.Who.{Who}
+use Rattle.lk_domain.proofs.Names.{Who}
 use Rattle.lk_domain.proofs.Seating.{table_of, seat_of}
 use Rattle.lk_domain.proofs.journals.Told as told
 use Rattle.lk_domain.proofs.ledger.pages.journal_home.Goals as goal

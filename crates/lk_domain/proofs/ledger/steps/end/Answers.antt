@@ -1,15 +1,9 @@
-use Rattle.std.proofs.Common.{sym, ap, ◌∙◌, ◌≡◌, ◌<◌, ◌+◌, Some, None, subst, arith, get_or, List, ℕ}
-use Rattle.std.specs.Slots.{slots_items}
-use Rattle.lk_names.specs.declared.ledger.Entry.{Entry}
-use Rattle.lk_domain.specs.Ends.{IsEnd}
+use Rattle.std.proofs.Common.{sym, ap, ◌∙◌, ◌≡◌, ◌<◌, ◌+◌, Some, None, subst, arith, get_or, List}
+use Rattle.std.proofs.Common.{ℕ}
+use Rattle.lk_domain.proofs.Names.{slots_items, Entry, IsEnd, accounts_of, cpus_of, FitsUnder}
+use Rattle.lk_domain.proofs.Names.{homes_of, balance_at, Journal, Plan, CellKey, Entries}
 use Rattle.lk_names.specs.Journal.{balances_after}
-use Rattle.lk_domain.specs.Plans.{cpus_of, accounts_of}
-use Rattle.lk_domain.specs.Values.{FitsUnder, homes_of}
-use Rattle.lk_domain.specs.Words.{balance_at}
 use Rattle.lk_values.specs.Guarded.{AreFit}
-use Rattle.lk_domain.specs.declared.ledger.journal.Journal.{Journal}
-use Rattle.lk_domain.specs.declared.plan.Plan.{Plan}
-use Rattle.lk_domain.specs.declared.slot.Stowed.TheVariants.{Entries, CellKey}
 use Rattle.lk_domain.proofs.journals.Last.{ended_with, are_read, values_end}
 use Rattle.lk_domain.proofs.journals.Loads.{entries_long}
 use Rattle.lk_domain.proofs.ledger.steps.end.Goals as goal

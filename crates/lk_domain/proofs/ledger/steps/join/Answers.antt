@@ -1,8 +1,5 @@
 use Rattle.std.proofs.Common.{sym, ap, ◌∙◌, arith}
-use Rattle.atomic_table.specs.Table.{Me}
-use Rattle.lk_domain.specs.Keeps.{Slot}
-use Rattle.lk_domain.specs.Plays.{carried_with, carried_of}
-use Rattle.lk_domain.specs.declared.view.View.{View}
+use Rattle.lk_domain.proofs.Names.{Me, Slot, carried_of, carried_with, View}
 use Rattle.lk_domain.proofs.seats.Parted.{joins}
 use Rattle.lk_domain.proofs.ledger.steps.join.Goals as goal
 

@@ -1,12 +1,6 @@
 use Rattle.std.proofs.Common.{sym, ap, ◌∙◌, ◌≡◌, ◌∷◌, List, ℕ, Some, arith}
-use mathlib.Core.Option.{none}
-use Rattle.atomic_table.specs.Table.{step, Me, rest}
-use Rattle.lk_domain.specs.Keeps.{Slot}
-use Rattle.lk_domain.specs.Plays.{carried_with, carried_of}
-use Rattle.lk_domain.specs.Values.{empty_places}
-use Rattle.lk_domain.specs.Who.{Who}
-use Rattle.lk_domain.specs.declared.slot.Stowed.TheVariants.{Entries}
-use Rattle.lk_domain.specs.declared.view.View.{View}
+use Rattle.lk_domain.proofs.Names.{Me, rest, step, none, Slot, carried_of, carried_with}
+use Rattle.lk_domain.proofs.Names.{empty_places, Who, Entries, View}
 use Rattle.lk_domain.proofs.journals.Stores.{brings_at}
 use Rattle.lk_domain.proofs.journals.Told as told
 use Rattle.lk_domain.proofs.ledger.steps.journal_home.Goals as goal

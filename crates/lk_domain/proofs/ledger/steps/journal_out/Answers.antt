@@ -1,9 +1,5 @@
 use Rattle.std.proofs.Common.{sym, ap, ◌∙◌, ◌∷◌, List, ℕ, Some, arith}
-use mathlib.Core.Option.{none}
-use Rattle.atomic_table.specs.Table.{step, Me, rest}
-use Rattle.lk_domain.specs.Keeps.{Slot}
-use Rattle.lk_domain.specs.declared.slot.Stowed.TheVariants.{Entries}
-use Rattle.lk_domain.specs.declared.view.View.{View}
+use Rattle.lk_domain.proofs.Names.{Me, rest, step, none, Slot, Entries, View}
 use Rattle.lk_domain.proofs.journals.Loads.{takes_journal}
 use Rattle.lk_domain.proofs.ledger.steps.journal_out.Goals as goal
 

@@ -1,7 +1,5 @@
 use Rattle.std.proofs.Common.{◌≡◌, Option, Some, None, sym, ap, ◌∙◌}
-use Rattle.lk_domain.specs.Values.{Key, lodged}
-use Rattle.lk_domain.specs.declared.slot.Stowed.TheVariants.{Entries}
-use Rattle.lk_domain.specs.declared.ledger.journal.Journal.{Journal}
+use Rattle.lk_domain.proofs.Names.{Key, lodged, Journal, Entries}
 use Rattle.lk_domain.proofs.ledger.steps.key_in.Goals as goal
 
 -- the slot of a lock has no journal

@@ -1,13 +1,7 @@
 use Rattle.std.proofs.Common.{refl, sym, ap, ◌∙◌, arith}
-use mathlib.Core.Option.{none}
-use Rattle.atomic_table.specs.Table.{step, Me}
-use Rattle.lk_domain.specs.Keeps.{Slot}
-use Rattle.lk_domain.specs.Ledgers.{loaded}
-use Rattle.lk_domain.specs.Words.{balance_at}
-use Rattle.lk_domain.specs.declared.plan.Plan.{Plan}
-use Rattle.lk_domain.specs.Who.{Who}
-use Rattle.lk_domain.specs.declared.view.View.{View}
+use Rattle.lk_domain.proofs.Names.{Me, step, none, Slot, Who, balance_at, Plan, View}
 use Rattle.lk_domain.proofs.journals.Loads.{loads}
+use Rattle.lk_domain.specs.Ledgers.{loaded}
 use Rattle.lk_domain.proofs.journals.Told as told
 use Rattle.lk_domain.proofs.ledger.steps.load.Goals as goal
 

@@ -1,5 +1,5 @@
 use Rattle.std.proofs.Common.{ap, arith, ◌+◌, ◌∙◌, ◌∷◌, [], length, length-append}
-use Rattle.std.specs.Slots.{slots_items}
+use Rattle.lk_domain.proofs.Names.{slots_items}
 use Rattle.lk_domain.proofs.journals.Last.{read_more, some_inside}
 use Rattle.lk_domain.proofs.ledger.steps.read.Goals as goal
 

@@ -1,5 +1,5 @@
 use Rattle.std.proofs.Common.{◌≡◌, take, drop, length}
-use Rattle.std.specs.Slots.{slots_items}
+use Rattle.lk_domain.proofs.Names.{slots_items}
 use Rattle.lk_domain.proofs.ledger.steps.read.Given as goal
 
 abbrev pub invariant-loop-account : goal.invariant-loop-account

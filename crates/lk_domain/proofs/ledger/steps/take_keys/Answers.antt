@@ -1,14 +1,11 @@
-use Rattle.std.proofs.Common.{◌≡◌, ◌+◌, ◌∷◌, [], inl, inr, ℕ, zero, suc, List, Bool, false, Option, length, set, get_or}
-use Rattle.std.proofs.Common.{refl, sym, ap, ◌∙◌, subst, arith, length-append, length-set, get_or-set_other}
-use Rattle.std.proofs.lemmas.Bool.{cases_eq}
-use Rattle.std.specs.Slots.{slots_filled, slots_items}
-use mathlib.Core.Option.{some, some-injective}
-use lib.ListN.{get_elem?}
+use Rattle.std.proofs.Common.{◌≡◌, ◌+◌, ◌∷◌, [], inl, inr, ℕ, zero, suc, List, Bool, false, Option}
+use Rattle.std.proofs.Common.{length, set, get_or, refl, sym, ap, ◌∙◌, subst, arith, length-append}
+use Rattle.std.proofs.Common.{length-set, get_or-set_other}
+use Rattle.std.specs.Slots.{slots_filled}
+use Rattle.lk_domain.proofs.Names.{cases_eq, slots_items, get_elem?, some, some-injective, Slot}
+use Rattle.lk_domain.proofs.Names.{FitsUnder, Key, homes_of, lodged}
+use Rattle.lk_domain.proofs.{journals.Last.is_lodged, seats.Openings.each_more}
 use Rattle.lk_domain.specs.Ends.{AreTaken}
-use Rattle.lk_domain.specs.Keeps.{Slot}
-use Rattle.lk_domain.specs.Values.{Key, FitsUnder, homes_of, lodged}
-use Rattle.lk_domain.proofs.journals.Last.{is_lodged}
-use Rattle.lk_domain.proofs.seats.Openings.{each_more}
 use Rattle.lk_domain.proofs.ledger.steps.take_keys.Goals as goal
 
 set_false : (f : List Bool) (i : ℕ) → get_or (set f i false) i false ≡ false

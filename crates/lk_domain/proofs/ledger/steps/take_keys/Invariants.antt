@@ -1,9 +1,7 @@
 use Rattle.std.proofs.Common.{◌≡◌, ◌+◌, ◌<◌, ℕ, Option, length, get_or}
-use Rattle.std.specs.Slots.{slots_filled, slots_items, slots_len}
-use mathlib.Core.Option.{some}
-use lib.ListN.{get_elem?}
+use Rattle.std.specs.Slots.{slots_filled, slots_len}
+use Rattle.lk_domain.proofs.Names.{slots_items, get_elem?, some, Key, homes_of, lodged}
 use Rattle.lk_domain.specs.Ends.{AreTaken}
-use Rattle.lk_domain.specs.Values.{Key, homes_of, lodged}
 use Rattle.lk_domain.proofs.ledger.steps.take_keys.Given as goal
 
 -- the slots before this one are taken, and the keys are those that lay in them

@@ -1,11 +1,7 @@
 use Rattle.std.proofs.Common.{refl, ap, ◌∙◌, arith}
-use mathlib.Core.Option.{none}
-use Rattle.atomic_table.specs.Table.{step, Me}
-use Rattle.lk_domain.specs.Keeps.{Slot}
-use Rattle.lk_domain.specs.Ledgers.{sighted}
-use Rattle.lk_domain.specs.Who.{Who}
-use Rattle.lk_domain.specs.declared.view.View.{View}
+use Rattle.lk_domain.proofs.Names.{Me, step, none, Slot, Who, View}
 use Rattle.lk_domain.proofs.journals.Loads.{sees}
+use Rattle.lk_domain.specs.Ledgers.{sighted}
 use Rattle.lk_domain.proofs.journals.Told as told
 use Rattle.lk_domain.proofs.ledger.steps.version.Goals as goal
 

@@ -1,10 +1,8 @@
 use Rattle.std.proofs.Common.{refl}
-use Rattle.lk_law.specs.Leads.{Linked}
+use Rattle.lk_domain.proofs.Names.{Linked, locks_of}
+use Rattle.lk_domain.proofs.{Seating.{apart_of, noted_of}, turns.Noted.stays}
 use Rattle.lk_domain.proofs.turns.Carried as row
-use Rattle.lk_domain.proofs.turns.Noted.{stays}
 use Rattle.lk_domain.proofs.turns.Stepped as stepped
-use Rattle.lk_domain.specs.Plans.{locks_of}
-use Rattle.lk_domain.proofs.Seating.{apart_of, noted_of}
 use Rattle.lk_domain.proofs.locks.choice_steps.look_next.Goals as goal
 
 pub invariant_of-cpu : goal.invariant_of-cpu

@@ -1,7 +1,6 @@
 use Rattle.std.proofs.Common.{Option, subst}
-use Rattle.lk_word.specs.declared.spin_word.NodeName.{NodeName}
+use Rattle.lk_domain.proofs.Names.{NodeName, view_of}
 use Rattle.lk_domain.specs.NodePlays.{AtSecondTail}
-use Rattle.lk_domain.specs.Seats.{view_of}
 use Rattle.lk_domain.proofs.locks.choice_steps.second_tail.Goals as goal
 
 pub look_tail-requires-clause-row : goal.look_tail-requires-clause-row

@@ -1,9 +1,8 @@
 use Rattle.std.proofs.Common.{refl}
+use Rattle.lk_domain.proofs.Names.{locks_of}
+use Rattle.lk_domain.proofs.{Seating.{apart_of, noted_of}, turns.Noted.stays}
 use Rattle.lk_domain.proofs.turns.Carried as row
-use Rattle.lk_domain.proofs.turns.Noted.{stays}
 use Rattle.lk_domain.proofs.turns.Stepped as stepped
-use Rattle.lk_domain.specs.Plans.{locks_of}
-use Rattle.lk_domain.proofs.Seating.{apart_of, noted_of}
 use Rattle.lk_domain.proofs.locks.choice_steps.tail_to_second.Goals as goal
 
 pub returns-clause-rest : goal.returns-clause-rest

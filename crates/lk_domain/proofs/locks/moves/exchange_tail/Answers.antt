@@ -1,14 +1,10 @@
 use Rattle.std.proofs.Common.{refl, arith, sym, ap, ◌∙◌, ◌+◌, ◌%◌, ℕ}
-use mathlib.Core.Option.{none}
-use Rattle.atomic_table.specs.Table.{step}
-use Rattle.lk_domain.specs.Plans.{layout_in}
+use Rattle.lk_domain.proofs.Names.{step, none, layout_in, arrives_by}
 use Rattle.lk_word.specs.SpinWord.{packed}
-use Rattle.lk_domain.specs.Rows.{arrives_by}
-use Rattle.lk_domain.proofs.turns.Courses.{arrive_kind}
-use Rattle.lk_domain.proofs.words.Locks.{word_below}
-use Rattle.lk_domain.proofs.words.Onward.{arrive_later}
 use Rattle.lk_domain.proofs.queue.LockSwaps.{asks_swap}
 use Rattle.lk_domain.proofs.queue.Pending.{arrives, arrive_on, arrive_frees}
+use Rattle.lk_domain.proofs.{turns.Courses.arrive_kind, words.Locks.word_below}
+use Rattle.lk_domain.proofs.words.Onward.{arrive_later}
 use Rattle.lk_domain.proofs.locks.moves.exchange_tail.Goals as goal
 
 pub compare_exchange-requires : goal.compare_exchange-requires

@@ -1,6 +1,7 @@
-use Rattle.lk_domain.specs.declared.locks.moves.WordUse.TheVariants.{Looks, Takes, Frees, Pends, Clears, Claims, Stakes}
-use Rattle.lk_domain.specs.declared.locks.moves.WordUse.TheVariants.{Slows, Wins, Signs, Drops}
+use Rattle.lk_domain.proofs.Names.{Claims, Clears, Looks, Pends, Stakes}
 use Rattle.lk_domain.proofs.words.Uses.{use_allowed, use_inside, use_made}
+use Rattle.lk_domain.specs.declared.locks.moves.WordUse.TheVariants.{Takes, Frees, Slows, Wins}
+use Rattle.lk_domain.specs.declared.locks.moves.WordUse.TheVariants.{Signs, Drops}
 use Rattle.lk_domain.proofs.locks.moves.go_on.Goals as goal
 
 pub load-requires : goal.load-requires

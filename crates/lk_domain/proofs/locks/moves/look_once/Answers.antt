@@ -1,10 +1,7 @@
 use Rattle.std.proofs.Common.{refl, arith}
-use mathlib.Core.Option.{none}
-use Rattle.atomic_table.specs.Table.{step}
-use Rattle.lk_rows.specs.declared.setup.Verb.TheVariants.{Try}
+use Rattle.lk_domain.proofs.Names.{step, none, Try}
+use Rattle.lk_domain.proofs.{words.LockPlays.asks, words.Numbers.{looks, look_on, look_frees}}
 use Rattle.lk_domain.specs.Rows.{is_look}
-use Rattle.lk_domain.proofs.words.LockPlays.{asks}
-use Rattle.lk_domain.proofs.words.Numbers.{looks, look_on, look_frees}
 use Rattle.lk_domain.proofs.locks.moves.look_once.Goals as goal
 
 pub load-requires : goal.load-requires

@@ -1,10 +1,7 @@
 use Rattle.std.proofs.Common.{refl, arith, ◌+◌, ◌-◌, ◌%◌, ◌^◌}
-use mathlib.Core.Option.{none}
-use Rattle.atomic_table.specs.Table.{step}
-use Rattle.lk_rows.specs.declared.setup.Verb.TheVariants.{Unlock}
+use Rattle.lk_domain.proofs.Names.{step, none, Unlock}
+use Rattle.lk_domain.proofs.{words.LockPlays.asks, words.Numbers.{releases, free_on}}
 use Rattle.lk_domain.specs.Rows.{is_free}
-use Rattle.lk_domain.proofs.words.LockPlays.{asks}
-use Rattle.lk_domain.proofs.words.Numbers.{releases, free_on}
 use Rattle.lk_domain.proofs.locks.moves.release.Goals as goal
 
 pub fetch_sub-met-requires : goal.fetch_sub-met-requires

@@ -1,13 +1,9 @@
 use Rattle.std.proofs.Common.{arith, ap, ◌∙◌, eqb, ℕ}
-use prog.Atomic.{either}
-use Rattle.lk_domain.specs.Plans.{layout_in}
+use Rattle.lk_domain.proofs.Names.{either, node_of, layout_in, soles_by}
 use Rattle.lk_word.specs.SpinWord.{packed}
-use Rattle.lk_rows.specs.Moves.{node_of}
-use Rattle.lk_domain.specs.Rows.{soles_by}
-use Rattle.lk_domain.proofs.turns.Courses.{sole_kind}
-use Rattle.lk_domain.proofs.words.Locks.{word_below}
-use Rattle.lk_domain.proofs.words.Onward.{asks_on, made_on, now_of, sole_later}
 use Rattle.lk_domain.proofs.queue.Pending.{sole_takes, sole_on, sole_frees}
+use Rattle.lk_domain.proofs.{turns.Courses.sole_kind, words.Locks.word_below}
+use Rattle.lk_domain.proofs.words.Onward.{asks_on, made_on, now_of, sole_later}
 use Rattle.lk_domain.proofs.locks.moves.sole_claim.Goals as goal
 
 pub compare_exchange-met-requires : goal.compare_exchange-met-requires

@@ -1,13 +1,9 @@
 use Rattle.std.proofs.Common.{arith, ap, ◌∙◌, ◌+◌, eqb, ℕ}
-use prog.Atomic.{either}
-use Rattle.lk_domain.specs.Plans.{layout_in}
+use Rattle.lk_domain.proofs.Names.{either, node_of, layout_in, promotes_by}
 use Rattle.lk_word.specs.SpinWord.{packed}
-use Rattle.lk_rows.specs.Moves.{node_of}
-use Rattle.lk_domain.specs.Rows.{promotes_by}
-use Rattle.lk_domain.proofs.turns.Courses.{promote_kind}
-use Rattle.lk_domain.proofs.words.Locks.{word_below}
-use Rattle.lk_domain.proofs.words.Onward.{asks_on, made_on, now_of, promote_later}
 use Rattle.lk_domain.proofs.queue.Pending.{promotes, promote_on, promote_frees}
+use Rattle.lk_domain.proofs.{turns.Courses.promote_kind, words.Locks.word_below}
+use Rattle.lk_domain.proofs.words.Onward.{asks_on, made_on, now_of, promote_later}
 use Rattle.lk_domain.proofs.locks.moves.tail_to_second.Goals as goal
 
 pub compare_exchange-met-requires : goal.compare_exchange-met-requires

@@ -1,11 +1,6 @@
 use Rattle.std.proofs.Common.{refl, arith, eqb}
-use mathlib.Core.Option.{none}
-use prog.Atomic.{either}
-use Rattle.atomic_table.specs.Table.{step}
-use Rattle.lk_rows.specs.declared.setup.Verb.TheVariants.{Try}
-use Rattle.lk_domain.specs.Rows.{is_take}
-use Rattle.lk_domain.proofs.words.LockPlays.{asks}
-use Rattle.lk_domain.proofs.words.Numbers.{takes, take_on, take_frees}
+use Rattle.lk_domain.proofs.Names.{step, none, either, Try, is_take}
+use Rattle.lk_domain.proofs.{words.LockPlays.asks, words.Numbers.{takes, take_on, take_frees}}
 use Rattle.lk_domain.proofs.locks.moves.take_once.Goals as goal
 
 pub compare_exchange-requires : goal.compare_exchange-requires

@@ -1,6 +1,5 @@
 use Rattle.std.proofs.Common.{arith}
-use Rattle.lk_domain.proofs.words.NodeWords.{low}
-use Rattle.lk_domain.proofs.queue.NodeAsks.{reset_last}
+use Rattle.lk_domain.proofs.{queue.NodeAsks.reset_last, words.NodeWords.low}
 use Rattle.lk_domain.proofs.locks.node_moves.enter.Goals as goal
 
 pub swap-requires : goal.swap-requires

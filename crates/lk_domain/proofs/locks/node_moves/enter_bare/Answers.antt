@@ -1,6 +1,5 @@
 use Rattle.std.proofs.Common.{arith}
-use Rattle.lk_domain.proofs.words.Locks.{word_below}
-use Rattle.lk_domain.proofs.queue.NodeAsks.{bare_look}
+use Rattle.lk_domain.proofs.{queue.NodeAsks.bare_look, words.Locks.word_below}
 use Rattle.lk_domain.proofs.locks.node_moves.enter_bare.Goals as goal
 
 pub load-requires : goal.load-requires

@@ -1,10 +1,6 @@
 use Rattle.std.proofs.Common.{arith, ⊎_elim, ℕ, subst, sym, ap, ◌∙◌}
-use Rattle.atomic_table.specs.Table.{Allows}
-use Rattle.lk_domain.specs.NodePlays.{Hands}
-use Rattle.lk_domain.specs.Stand.{Stand}
-use Rattle.lk_domain.specs.Words.{flag_number}
-use Rattle.lk_domain.proofs.queue.FrontPlays.{hands_over}
-use Rattle.lk_domain.proofs.queue.HaltPlays.{hand_asks}
+use Rattle.lk_domain.proofs.Names.{Allows, Hands, Stand, flag_number}
+use Rattle.lk_domain.proofs.{queue.FrontPlays.hands_over, queue.HaltPlays.hand_asks}
 use Rattle.lk_domain.proofs.locks.node_moves.hand.Goals as goal
 
 pub swap-met-requires : goal.swap-met-requires

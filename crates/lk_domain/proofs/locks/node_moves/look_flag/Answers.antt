@@ -1,6 +1,5 @@
 use Rattle.std.proofs.Common.{arith, ⊎_elim}
-use Rattle.lk_domain.proofs.queue.NodeAsks.{look_flag}
-use Rattle.lk_domain.proofs.queue.HaltPlays.{flag_asks}
+use Rattle.lk_domain.proofs.{queue.HaltPlays.flag_asks, queue.NodeAsks.look_flag}
 use Rattle.lk_domain.proofs.locks.node_moves.look_flag.Goals as goal
 
 pub load-met-requires : goal.load-met-requires

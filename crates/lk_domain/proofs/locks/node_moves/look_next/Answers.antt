@@ -1,6 +1,5 @@
 use Rattle.std.proofs.Common.{arith, ⊎_elim}
-use Rattle.lk_domain.proofs.queue.FrontPlays.{looks_link}
-use Rattle.lk_domain.proofs.queue.HaltPlays.{behind_asks}
+use Rattle.lk_domain.proofs.{queue.FrontPlays.looks_link, queue.HaltPlays.behind_asks}
 use Rattle.lk_domain.proofs.locks.node_moves.look_next.Goals as goal
 
 pub load-met-requires : goal.load-met-requires

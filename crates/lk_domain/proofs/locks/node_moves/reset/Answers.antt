@@ -1,9 +1,6 @@
 use Rattle.std.proofs.Common.{sym, refl, ◌∙◌, arith}
-use mathlib.Core.Option.{none}
-use Rattle.atomic_table.specs.Table.{step}
-use Rattle.lk_domain.specs.Words.{node_at}
-use Rattle.lk_domain.proofs.words.NodeWords.{low}
-use Rattle.lk_domain.proofs.queue.NodeAsks.{reset_one}
+use Rattle.lk_domain.proofs.Names.{step, none, node_at}
+use Rattle.lk_domain.proofs.{queue.NodeAsks.reset_one, words.NodeWords.low}
 use Rattle.lk_domain.proofs.locks.node_moves.reset.Goals as goal
 
 pub swap-requires : goal.swap-requires

@@ -1,13 +1,8 @@
 use Rattle.std.proofs.Common.{subst, arith, ℕ, ◌<◌, true, false}
-use Rattle.lk_rows.specs.declared.parts.Pc.TheVariants.{G1}
-use Rattle.lk_law.specs.Leads.{Number}
-use Rattle.lk_domain.specs.Calls.{running, slows}
-use Rattle.lk_domain.specs.Marked.{Steps}
+use Rattle.lk_domain.proofs.Names.{G1, Number, running, slows, Steps, locks_of}
+use Rattle.lk_domain.proofs.{Seating.{apart_of, noted_of}, turns.Noted.newest_low}
 use Rattle.lk_domain.proofs.turns.Carried as row
-use Rattle.lk_domain.proofs.turns.Noted.{newest_low}
 use Rattle.lk_domain.proofs.turns.Stepped as stepped
-use Rattle.lk_domain.specs.Plans.{locks_of}
-use Rattle.lk_domain.proofs.Seating.{apart_of, noted_of}
 use Rattle.lk_domain.proofs.locks.queue_steps.enter.Goals as goal
 
 pub step-requires : goal.step-requires

@@ -1,9 +1,7 @@
-use Rattle.lk_law.specs.Leads.{Number}
-use Rattle.lk_domain.specs.Calls.{slows}
+use Rattle.lk_domain.proofs.Names.{Number, slows, locks_of}
+use Rattle.lk_domain.proofs.Seating.{low_of, apart_of, noted_of}
 use Rattle.lk_domain.proofs.turns.Carried as row
 use Rattle.lk_domain.proofs.turns.Stepped as stepped
-use Rattle.lk_domain.specs.Plans.{locks_of}
-use Rattle.lk_domain.proofs.Seating.{low_of, apart_of, noted_of}
 use Rattle.lk_domain.proofs.locks.queue_steps.enter_bare.Goals as goal
 
 pub step-requires : goal.step-requires

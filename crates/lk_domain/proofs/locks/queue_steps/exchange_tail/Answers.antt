@@ -1,5 +1,4 @@
-use Rattle.lk_domain.proofs.queue.Swapped.{swapped, made}
-use Rattle.lk_domain.proofs.Seating.{table_of, apart_of, noted_of}
+use Rattle.lk_domain.proofs.{Seating.{table_of, apart_of, noted_of}, queue.Swapped.{swapped, made}}
 use Rattle.lk_domain.proofs.locks.queue_steps.exchange_tail.Goals as goal
 
 pub returns-clause-step : goal.returns-clause-step

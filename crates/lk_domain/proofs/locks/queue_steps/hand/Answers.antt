@@ -1,15 +1,9 @@
-use Rattle.std.proofs.Common.{inl, subst, ℕ, false, arith, ◌<◌}
-use Rattle.std.specs.Prelude.{not}
-use Rattle.lk_rows.specs.declared.parts.Flag.TheVariants.{Unset}
-use Rattle.lk_law.specs.Leads.{Flagged}
-use Rattle.lk_domain.specs.Marked.{Steps}
-use Rattle.lk_domain.proofs.Seating.{table_of, apart_of, noted_of}
-use Rattle.lk_domain.specs.Calls.{running}
-use Rattle.lk_domain.proofs.turns.Carried as row
+use Rattle.std.proofs.Common.{inl, subst, ℕ, false, arith, ◌<◌, not}
+use Rattle.lk_domain.proofs.Names.{Unset, Flagged, running, Steps, locks_of}
+use Rattle.lk_domain.proofs.{Seating.{table_of, apart_of, noted_of}, queue.FrontPlays.hand_row}
 use Rattle.lk_domain.proofs.turns.Noted.{newest_low}
+use Rattle.lk_domain.proofs.turns.Carried as row
 use Rattle.lk_domain.proofs.turns.Stepped as stepped
-use Rattle.lk_domain.proofs.queue.FrontPlays.{hand_row}
-use Rattle.lk_domain.specs.Plans.{locks_of}
 use Rattle.lk_domain.proofs.locks.queue_steps.hand.Goals as goal
 
 pub step-requires : goal.step-requires

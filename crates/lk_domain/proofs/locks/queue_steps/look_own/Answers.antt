@@ -1,13 +1,9 @@
 use Rattle.std.proofs.Common.{inl, subst, ◌∙◌}
-use Rattle.lk_law.specs.Leads.{Linked}
+use Rattle.lk_domain.proofs.Names.{Linked, locks_of, view_of, Part}
+use Rattle.lk_domain.proofs.{Seating.{table_of, apart_of, noted_of}, turns.Noted.stays}
 use Rattle.lk_domain.specs.NodePlays.{LooksAt}
-use Rattle.lk_domain.specs.Seats.{view_of}
-use Rattle.lk_domain.specs.declared.part.Part.{Part}
-use Rattle.lk_domain.proofs.Seating.{table_of, apart_of, noted_of}
 use Rattle.lk_domain.proofs.turns.Carried as row
-use Rattle.lk_domain.proofs.turns.Noted.{stays}
 use Rattle.lk_domain.proofs.turns.Stepped as stepped
-use Rattle.lk_domain.specs.Plans.{locks_of}
 use Rattle.lk_domain.proofs.locks.queue_steps.look_own.Goals as goal
 
 pub invariant_of-cpu-in-Next : goal.invariant_of-cpu-in-Next

@@ -1,12 +1,8 @@
 use Rattle.std.proofs.Common.{arith, refl, sym, ap, ◌∙◌, Some}
-use Rattle.lk_word.specs.SpinWord.{tail_number}
-use Rattle.lk_domain.specs.Plans.{layout_in, locks_of}
-use Rattle.lk_domain.specs.declared.plan.Plan.{Plan}
-use Rattle.lk_rows.specs.Moves.{node_of}
+use Rattle.lk_domain.proofs.Names.{tail_number, node_of, layout_in, locks_of, Plan}
+use Rattle.lk_domain.proofs.{Seating.{low_of, apart_of, noted_of}, queue.Pending.sole_met}
 use Rattle.lk_domain.proofs.turns.Carried as row
-use Rattle.lk_domain.proofs.queue.Pending.{sole_met}
 use Rattle.lk_domain.proofs.turns.Stepped as stepped
-use Rattle.lk_domain.proofs.Seating.{low_of, apart_of, noted_of}
 use Rattle.lk_domain.proofs.locks.queue_steps.sole_claim.Goals as goal
 
 pub step-requires : goal.step-requires

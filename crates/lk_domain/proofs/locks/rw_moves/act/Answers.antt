@@ -1,18 +1,14 @@
-use Rattle.atomic_table.specs.Table.{step}
-use Rattle.lk_domain.proofs.rw.Numbers.{watches, watch_row, watch_last, seizes, seize_row, seize_last, joins, join_row, join_last, quits, quit_row, quit_frees, quit_reads, follows, follow_row, follow_last, leaves, leave_row, leave_writes, awaits, await_row, await_last}
-use Rattle.lk_domain.proofs.rw.Plays.{asks, reader_shut, writer_shut}
-use Rattle.lk_domain.specs.RwPlays.{ActsFor}
-use Rattle.lk_domain.specs.RwRows.{watches_by, seizes_by, joins_by, quits_by, follows_by, leaves_by, awaits_by}
-use Rattle.lk_domain.specs.RwUses.{frees_by_use, rw_uses_by}
-use Rattle.lk_domain.specs.declared.locks.rw_moves.RwUse.{RwUse}
-use Rattle.lk_domain.specs.declared.locks.rw_moves.RwUse.TheVariants.{Watches, Joins, Quits, Seizes, Awaits, Follows, Leaves}
-use Rattle.lk_domain.specs.declared.view.View.{View}
-use Rattle.lk_rows.specs.declared.setup.Verb.{Verb}
-use Rattle.std.proofs.Common.{refl, arith, eqb, ◌+◌, ◌%◌, ◌^◌, ◌-◌, subst, ◌≡◌, true, ap, sym}
-use Rattle.std.specs.Int.Bits.{bit_or}
-use Rattle.std.specs.Prelude.{ℕ}
-use mathlib.Core.Option.{none}
-use prog.Atomic.{either}
+use Rattle.std.proofs.Common.{refl, arith, eqb, ◌+◌, ◌%◌, ◌^◌, ◌-◌, subst, ◌≡◌, true, ap, sym, ℕ}
+use Rattle.lk_domain.proofs.Names.{bit_or, step, none, either, Verb, ActsFor, awaits_by, follows_by}
+use Rattle.lk_domain.proofs.Names.{joins_by, leaves_by, quits_by, seizes_by, watches_by, View}
+use Rattle.lk_domain.proofs.rw.Numbers.{watches, watch_row, watch_last, seizes, seize_row}
+use Rattle.lk_domain.proofs.rw.Numbers.{seize_last, joins, join_row, join_last, quits, quit_row}
+use Rattle.lk_domain.proofs.rw.Numbers.{quit_frees, quit_reads, follows, follow_row, follow_last}
+use Rattle.lk_domain.proofs.rw.Numbers.{leaves, leave_row, leave_writes, awaits, await_row}
+use Rattle.lk_domain.proofs.{rw.Numbers.await_last, rw.Plays.{asks, reader_shut, writer_shut}}
+use Rattle.lk_domain.specs.{RwUses.{frees_by_use, rw_uses_by}, declared.locks.rw_moves.RwUse.RwUse}
+use Rattle.lk_domain.specs.declared.locks.rw_moves.RwUse.TheVariants.{Watches, Joins, Quits, Seizes}
+use Rattle.lk_domain.specs.declared.locks.rw_moves.RwUse.TheVariants.{Awaits, Follows, Leaves}
 use Rattle.lk_domain.proofs.locks.rw_moves.act.Goals as goal
 
 here : (v : Verb) (w : View) (l : ℕ) (u how : RwUse) → u ≡ how → ActsFor (rw_uses_by u v) w v l → ActsFor (rw_uses_by how v) w v l

@@ -1,8 +1,6 @@
-use Rattle.lk_domain.specs.Calls.{waits_in}
-use Rattle.lk_domain.specs.RwRows.{joins_at, joins_by}
-use Rattle.lk_domain.proofs.rw.Stepped as stepped
-use Rattle.lk_domain.specs.Plans.{locks_of}
+use Rattle.lk_domain.proofs.Names.{waits_in, locks_of, joins_at, joins_by}
 use Rattle.lk_domain.proofs.Seating.{low_of, apart_of, noted_of}
+use Rattle.lk_domain.proofs.rw.Stepped as stepped
 use Rattle.lk_domain.proofs.locks.rw_steps.add_bias.Goals as goal
 
 pub act_by-met-requires-clause-row : goal.act_by-met-requires-clause-row

@@ -1,8 +1,6 @@
-use Rattle.lk_domain.specs.Calls.{waits_in}
-use Rattle.lk_domain.specs.RwRows.{seizes_at, seizes_by}
-use Rattle.lk_domain.proofs.rw.Stepped as stepped
-use Rattle.lk_domain.specs.Plans.{locks_of}
+use Rattle.lk_domain.proofs.Names.{waits_in, locks_of, seizes_at, seizes_by}
 use Rattle.lk_domain.proofs.Seating.{low_of, apart_of, noted_of}
+use Rattle.lk_domain.proofs.rw.Stepped as stepped
 use Rattle.lk_domain.proofs.locks.rw_steps.empty_to_writer.Goals as goal
 
 pub act_by-met-requires-clause-row : goal.act_by-met-requires-clause-row

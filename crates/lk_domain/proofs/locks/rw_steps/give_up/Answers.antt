@@ -1,8 +1,7 @@
 use Rattle.std.proofs.Common.{refl}
-use Rattle.lk_rows.specs.declared.setup.Verb.TheVariants.{TryRead}
-use Rattle.lk_domain.proofs.rw.Stepped as stepped
-use Rattle.lk_domain.specs.Plans.{locks_of}
+use Rattle.lk_domain.proofs.Names.{TryRead, locks_of}
 use Rattle.lk_domain.proofs.Seating.{low_of, apart_of, noted_of}
+use Rattle.lk_domain.proofs.rw.Stepped as stepped
 use Rattle.lk_domain.proofs.locks.rw_steps.give_up.Goals as goal
 
 pub step-requires : goal.step-requires

@@ -1,14 +1,8 @@
-use Rattle.std.proofs.Common.{◌≡◌, ℕ, Bool, false, sym, ap, subst}
-use Rattle.std.specs.Prelude.{not}
-use Rattle.lk_rows.specs.declared.setup.Verb.TheVariants.{Read}
-use Rattle.lk_rows.specs.declared.setup.Verb.{Verb}
-use Rattle.lk_domain.specs.Calls.{waits_in}
-use Rattle.lk_domain.specs.RwPlays.{ActsFor}
-use Rattle.lk_domain.specs.RwRows.{joins_at, joins_by}
-use Rattle.lk_domain.specs.declared.view.View.{View}
-use Rattle.lk_domain.proofs.rw.Stepped as stepped
-use Rattle.lk_domain.specs.Plans.{locks_of}
+use Rattle.std.proofs.Common.{◌≡◌, ℕ, Bool, false, sym, ap, subst, not}
+use Rattle.lk_domain.proofs.Names.{Verb, Read, waits_in, locks_of, ActsFor, joins_at, joins_by}
+use Rattle.lk_domain.proofs.Names.{View}
 use Rattle.lk_domain.proofs.Seating.{low_of, apart_of, noted_of}
+use Rattle.lk_domain.proofs.rw.Stepped as stepped
 use Rattle.lk_domain.proofs.locks.rw_steps.join_first.Goals as goal
 
 by_verb : (b : Bool) (v : Verb) (w : View) (l : ℕ) → v ≡ Read → ActsFor (joins_at b v) w v l → ActsFor (joins_at b Read) w Read l

@@ -1,11 +1,8 @@
 use Rattle.std.proofs.Common.{ap, ◌∙◌}
-use Rattle.lk_rows.specs.declared.setup.Verb.TheVariants.{RUnlock}
-use Rattle.lk_domain.specs.Calls.{are_calls}
+use Rattle.lk_domain.proofs.Names.{RUnlock, are_calls, locks_of}
+use Rattle.lk_domain.proofs.{Seating.{low_of, apart_of, noted_of}, rw.Released.reader}
 use Rattle.lk_domain.proofs.rw.Released as released
-use Rattle.lk_domain.proofs.rw.Released.{reader}
 use Rattle.lk_domain.proofs.rw.Stepped as stepped
-use Rattle.lk_domain.specs.Plans.{locks_of}
-use Rattle.lk_domain.proofs.Seating.{low_of, apart_of, noted_of}
 use Rattle.lk_domain.proofs.locks.rw_steps.release_as_reader.Goals as goal
 
 pub invariant_of-cpu : goal.invariant_of-cpu

@@ -1,13 +1,8 @@
 use Rattle.std.proofs.Common.{◌≡◌, ℕ, Bool, false, refl, sym, subst}
-use Rattle.lk_rows.specs.declared.setup.Verb.TheVariants.{Write}
-use Rattle.lk_rows.specs.declared.setup.Verb.{Verb}
-use Rattle.lk_domain.specs.Calls.{waits_in}
-use Rattle.lk_domain.specs.RwPlays.{ActsFor}
-use Rattle.lk_domain.specs.RwRows.{seizes_at, seizes_by}
-use Rattle.lk_domain.specs.declared.view.View.{View}
-use Rattle.lk_domain.proofs.rw.Stepped as stepped
-use Rattle.lk_domain.specs.Plans.{locks_of}
+use Rattle.lk_domain.proofs.Names.{Verb, Write, waits_in, locks_of, ActsFor, seizes_at, seizes_by}
+use Rattle.lk_domain.proofs.Names.{View}
 use Rattle.lk_domain.proofs.Seating.{low_of, apart_of, noted_of}
+use Rattle.lk_domain.proofs.rw.Stepped as stepped
 use Rattle.lk_domain.proofs.locks.rw_steps.seize_first.Goals as goal
 
 by_verb : (b : Bool) (v : Verb) (w : View) (l : ℕ) → v ≡ Write → ActsFor (seizes_at b v) w v l → ActsFor (seizes_at b Write) w Write l

@@ -1,8 +1,6 @@
-use Rattle.lk_rows.specs.declared.setup.Verb.TheVariants.{Write}
-use Rattle.lk_domain.specs.RwRows.{awaits_by}
-use Rattle.lk_domain.proofs.rw.Stepped as stepped
-use Rattle.lk_domain.specs.Plans.{locks_of}
+use Rattle.lk_domain.proofs.Names.{Write, locks_of, awaits_by}
 use Rattle.lk_domain.proofs.Seating.{apart_of, noted_of}
+use Rattle.lk_domain.proofs.rw.Stepped as stepped
 use Rattle.lk_domain.proofs.locks.rw_steps.set_waiting.Goals as goal
 
 pub act_by-requires-clause-row : goal.act_by-requires-clause-row

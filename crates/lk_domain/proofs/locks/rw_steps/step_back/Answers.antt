@@ -1,8 +1,7 @@
 use Rattle.std.proofs.Common.{refl}
-use Rattle.lk_rows.specs.declared.setup.Verb.TheVariants.{Read}
-use Rattle.lk_domain.proofs.rw.Stepped as stepped
-use Rattle.lk_domain.specs.Plans.{locks_of}
+use Rattle.lk_domain.proofs.Names.{Read, locks_of}
 use Rattle.lk_domain.proofs.Seating.{apart_of, noted_of}
+use Rattle.lk_domain.proofs.rw.Stepped as stepped
 use Rattle.lk_domain.proofs.locks.rw_steps.step_back.Goals as goal
 
 pub invariant_of-cpu : goal.invariant_of-cpu

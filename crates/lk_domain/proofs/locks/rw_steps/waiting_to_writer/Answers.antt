@@ -1,10 +1,7 @@
 use Rattle.std.proofs.Common.{Bool, true, false, sym, subst}
-use Rattle.lk_rows.specs.declared.setup.Verb.TheVariants.{Write}
-use Rattle.lk_domain.specs.Marked.{Steps}
-use Rattle.lk_domain.specs.RwRows.{follows_by}
-use Rattle.lk_domain.proofs.rw.Stepped as stepped
-use Rattle.lk_domain.specs.Plans.{locks_of}
+use Rattle.lk_domain.proofs.Names.{Write, Steps, locks_of, follows_by}
 use Rattle.lk_domain.proofs.Seating.{low_of, apart_of, noted_of}
+use Rattle.lk_domain.proofs.rw.Stepped as stepped
 use Rattle.lk_domain.proofs.locks.rw_steps.waiting_to_writer.Goals as goal
 
 pub act_by-met-requires-clause-row : goal.act_by-met-requires-clause-row

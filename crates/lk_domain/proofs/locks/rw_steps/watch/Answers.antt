@@ -1,8 +1,8 @@
 use Rattle.std.proofs.Common.{ℕ, ap, eqb, length}
-use Rattle.lk_domain.specs.RwRows.{watches_at, watches_by}
-use Rattle.lk_domain.proofs.rw.Stepped as stepped
-use Rattle.lk_domain.specs.Plans.{locks_of}
+use Rattle.lk_domain.proofs.Names.{locks_of, watches_by}
 use Rattle.lk_domain.proofs.Seating.{low_of, apart_of, noted_of}
+use Rattle.lk_domain.specs.RwRows.{watches_at}
+use Rattle.lk_domain.proofs.rw.Stepped as stepped
 use Rattle.lk_domain.proofs.locks.rw_steps.watch.Goals as goal
 
 pub act_by-met-requires-clause-row : goal.act_by-met-requires-clause-row

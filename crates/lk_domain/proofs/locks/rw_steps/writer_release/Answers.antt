@@ -1,12 +1,8 @@
 use Rattle.std.proofs.Common.{ap, ◌∙◌}
-use Rattle.lk_rows.specs.declared.setup.Verb.TheVariants.{WUnlock}
-use Rattle.lk_domain.specs.Calls.{are_calls}
-use Rattle.lk_domain.specs.RwRows.{leaves_by}
+use Rattle.lk_domain.proofs.Names.{WUnlock, are_calls, locks_of, leaves_by}
+use Rattle.lk_domain.proofs.{Seating.{low_of, apart_of, noted_of}, rw.Released.writer}
 use Rattle.lk_domain.proofs.rw.Released as released
-use Rattle.lk_domain.proofs.rw.Released.{writer}
 use Rattle.lk_domain.proofs.rw.Stepped as stepped
-use Rattle.lk_domain.specs.Plans.{locks_of}
-use Rattle.lk_domain.proofs.Seating.{low_of, apart_of, noted_of}
 use Rattle.lk_domain.proofs.locks.rw_steps.writer_release.Goals as goal
 
 pub act_by-met-requires-clause-row : goal.act_by-met-requires-clause-row

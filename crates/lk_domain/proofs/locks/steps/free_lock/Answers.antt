@@ -1,10 +1,8 @@
 use Rattle.std.proofs.Common.{ap, ◌∙◌}
-use Rattle.lk_rows.specs.declared.setup.Verb.TheVariants.{Unlock}
-use Rattle.lk_domain.specs.Calls.{are_calls}
+use Rattle.lk_domain.proofs.Names.{Unlock, are_calls, locks_of}
+use Rattle.lk_domain.proofs.Seating.{low_of, awake_of, apart_of, noted_of}
 use Rattle.lk_domain.proofs.turns.Carried as row
 use Rattle.lk_domain.proofs.Freed as freed
-use Rattle.lk_domain.specs.Plans.{locks_of}
-use Rattle.lk_domain.proofs.Seating.{low_of, awake_of, apart_of, noted_of}
 use Rattle.lk_domain.proofs.locks.steps.free_lock.Goals as goal
 
 pub invariant_of-cpu : goal.invariant_of-cpu

@@ -1,8 +1,8 @@
 use Rattle.lk_domain.proofs.turns.Carried as row
 use Rattle.lk_domain.proofs.turns.Stepped as stepped
+use Rattle.lk_domain.proofs.Names.{locks_of}
 use Rattle.lk_domain.proofs.Seating.{table_of, low_of, apart_of, noted_of}
 use Rattle.lk_domain.proofs.words.Goings.{at_free, wait_home}
-use Rattle.lk_domain.specs.Plans.{locks_of}
 use Rattle.lk_domain.proofs.locks.steps.free_wait.Goals as goal
 
 pub step-requires : goal.step-requires

@@ -1,5 +1,5 @@
 use Rattle.std.proofs.Common.{◌≡◌, inl, inr, true, false, sym, ◌∙◌}
-use Rattle.lk_domain.specs.Seats.{view_of}
+use Rattle.lk_domain.proofs.Names.{view_of}
 use Rattle.lk_domain.proofs.rw.Stepped.{at_word, at_shared}
 use Rattle.lk_domain.proofs.locks.steps.look.Goals as goal
 

@@ -1,8 +1,7 @@
 use Rattle.lk_domain.proofs.turns.Carried as row
 use Rattle.lk_domain.proofs.turns.Stepped as stepped
-use Rattle.lk_domain.proofs.Seating.{table_of, low_of, apart_of, noted_of}
-use Rattle.lk_domain.proofs.words.Goings.{at_claim}
-use Rattle.lk_domain.specs.Plans.{locks_of}
+use Rattle.lk_domain.proofs.Names.{locks_of}
+use Rattle.lk_domain.proofs.{Seating.{table_of, low_of, apart_of, noted_of}, words.Goings.at_claim}
 use Rattle.lk_domain.proofs.locks.steps.pending_to_locked.Goals as goal
 
 pub step-requires : goal.step-requires

@@ -1,5 +1,4 @@
-use Rattle.lk_domain.proofs.Seating.{table_of}
-use Rattle.lk_domain.proofs.words.Goings.{at_look}
+use Rattle.lk_domain.proofs.{Seating.table_of, words.Goings.at_look}
 use Rattle.lk_domain.proofs.locks.steps.seat_looks.Goals as goal
 
 pub look_once-requires-clause-table : goal.look_once-requires-clause-table

@@ -1,5 +1,4 @@
-use Rattle.lk_domain.proofs.Seating.{table_of}
-use Rattle.lk_domain.proofs.words.Goings.{at_take}
+use Rattle.lk_domain.proofs.{Seating.table_of, words.Goings.at_take}
 use Rattle.lk_domain.proofs.locks.steps.seat_takes.Goals as goal
 
 pub take_free-requires-clause-table : goal.take_free-requires-clause-table

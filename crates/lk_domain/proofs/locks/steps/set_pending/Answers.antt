@@ -1,10 +1,9 @@
 use Rattle.std.proofs.Common.{refl}
-use Rattle.lk_domain.proofs.turns.Carried as row
-use Rattle.lk_domain.proofs.turns.Noted.{stays}
-use Rattle.lk_domain.proofs.turns.Stepped as stepped
-use Rattle.lk_domain.proofs.Seating.{table_of, apart_of, noted_of}
+use Rattle.lk_domain.proofs.Names.{locks_of}
+use Rattle.lk_domain.proofs.{Seating.{table_of, apart_of, noted_of}, turns.Noted.stays}
 use Rattle.lk_domain.proofs.words.Goings.{at_pend}
-use Rattle.lk_domain.specs.Plans.{locks_of}
+use Rattle.lk_domain.proofs.turns.Carried as row
+use Rattle.lk_domain.proofs.turns.Stepped as stepped
 use Rattle.lk_domain.proofs.locks.steps.set_pending.Goals as goal
 
 pub invariant_of-cpu : goal.invariant_of-cpu

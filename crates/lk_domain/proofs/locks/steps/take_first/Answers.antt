@@ -1,18 +1,9 @@
-use Rattle.std.proofs.Common.{◌≡◌, ℕ, Bool, false, refl, subst}
-use Rattle.std.specs.Prelude.{◌&&◌}
-use Rattle.lk_names.specs.declared.names.LockName.{LockName}
-use Rattle.lk_rows.specs.declared.setup.Verb.TheVariants.{Lock}
-use Rattle.lk_rows.specs.declared.setup.Verb.{Verb}
-use Rattle.lk_domain.specs.Calls.{Calls, slow_in}
-use Rattle.lk_domain.specs.Marked.{Steps}
-use Rattle.lk_domain.specs.Plays.{ActsIn}
-use Rattle.lk_domain.specs.Rows.{takes_by}
-use Rattle.lk_domain.specs.declared.view.View.{View}
-use Rattle.lk_domain.proofs.Turned.{none_slow}
+use Rattle.std.proofs.Common.{◌≡◌, ℕ, Bool, false, refl, subst, ◌&&◌}
+use Rattle.lk_domain.proofs.Names.{LockName, Verb, Lock, Calls, slow_in, Steps, locks_of, ActsIn}
+use Rattle.lk_domain.proofs.Names.{takes_by, View}
+use Rattle.lk_domain.proofs.{Seating.{table_of, low_of, apart_of, noted_of}, Turned.none_slow}
 use Rattle.lk_domain.proofs.turns.Carried as row
 use Rattle.lk_domain.proofs.turns.Stepped as stepped
-use Rattle.lk_domain.proofs.Seating.{table_of, low_of, apart_of, noted_of}
-use Rattle.lk_domain.specs.Plans.{locks_of}
 use Rattle.lk_domain.proofs.locks.steps.take_first.Goals as goal
 
 by_lock : (v : Verb) (w : View) (l : LockName) → v ≡ Lock → ActsIn (takes_by v) w v l → ActsIn (takes_by Lock) w Lock l

@@ -1,7 +1,5 @@
-use Rattle.std.proofs.Common.{rules, sym, subst}
-use Rattle.std.specs.Prelude.{not, false}
-use Rattle.lk_domain.specs.Marked.{IsNoted}
-use Rattle.lk_domain.specs.declared.notes.Notes.{Notes}
+use Rattle.std.proofs.Common.{rules, sym, subst, not, false}
+use Rattle.lk_domain.proofs.Names.{IsNoted, Notes}
 use Rattle.lk_domain.proofs.turns.Noted.{first_ends, first_waits, taken_noted}
 use Rattle.lk_domain.proofs.notes.Notes.first_step.Goals as goal
 

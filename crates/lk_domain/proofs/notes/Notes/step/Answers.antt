@@ -1,6 +1,5 @@
 use Rattle.std.proofs.Common.{rules, ◌≡◌, ◌||◌, true, false, sym, ◌∙◌, subst}
-use Rattle.lk_domain.specs.Marked.{IsNoted}
-use Rattle.lk_domain.specs.declared.notes.Notes.{Notes}
+use Rattle.lk_domain.proofs.Names.{IsNoted, Notes}
 use Rattle.lk_domain.proofs.turns.Noted.{goes_on, left, right, taken_noted, untaken_noted}
 use Rattle.lk_domain.proofs.notes.Notes.step.Goals as goal
 

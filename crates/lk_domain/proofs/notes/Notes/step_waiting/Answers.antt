@@ -1,6 +1,5 @@
 use Rattle.std.proofs.Common.{true, refl, sym, subst, arith, ◌-◌}
-use Rattle.lk_domain.specs.Marked.{IsNoted, near_with, far_with}
-use Rattle.lk_domain.specs.declared.notes.Notes.{Notes}
+use Rattle.lk_domain.proofs.Names.{IsNoted, far_with, near_with, Notes}
 use Rattle.lk_domain.proofs.turns.Noted as noted
 use Rattle.lk_domain.proofs.notes.Notes.step_waiting.Goals as goal
 

@@ -1,5 +1,4 @@
-use Rattle.std.proofs.Common.{ℕ, eqb, sym, ap, ◌∙◌}
-use Rattle.std.specs.Prelude.{not}
+use Rattle.std.proofs.Common.{ℕ, eqb, sym, ap, ◌∙◌, not}
 use Rattle.lk_domain.proofs.turns.Noted.{upto_waits}
 use Rattle.lk_domain.proofs.notes.Notes.waits.Goals as goal
 

@@ -1,5 +1,5 @@
 use Rattle.std.proofs.Common.{◌≡◌, ◌≤◌, ◌*◌, take}
-use Rattle.std.specs.List.{sum}
+use Rattle.lk_domain.proofs.Names.{sum}
 use Rattle.lk_domain.proofs.plan.Plan.room.Given as goal
 
 abbrev pub invariant-loop-cpu : goal.invariant-loop-cpu

@@ -1,9 +1,7 @@
 use Rattle.std.proofs.Common.{◌≡◌, ◌∙◌, subst, arith, IfSome}
-use Rattle.lk_word.specs.declared.spin_word.Fields.{Fields}
-use Rattle.lk_word.specs.declared.spin_word.Layout.{Layout}
-use Rattle.lk_domain.specs.Plans.{layout_in}
-use Rattle.lk_word.specs.SpinWord.{packed, IsPackable}
-use Rattle.lk_word.proofs.SpinWordLemmas.{packed_small, packed_injective}
+use Rattle.lk_domain.proofs.Names.{packed_small, IsPackable, Fields, Layout, layout_in}
+use Rattle.lk_word.proofs.SpinWordLemmas.{packed_injective}
+use Rattle.lk_word.specs.SpinWord.{packed}
 use Rattle.lk_domain.proofs.plan.Plan.word_met.Goals as goal
 
 pub overflow_cast-met : goal.overflow_cast-met
