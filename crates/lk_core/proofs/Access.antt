@@ -1,21 +1,16 @@
 -- What is read of a machine after a write to one processor's record, or to one lock's.
 use Rattle.std.proofs.Common.{◌≡◌, ◌≢◌, ℕ, Option, Some, None, Bool, true, false, inl, inr, arith}
 use Rattle.std.proofs.Common.{ap, ◌<◌, refl, sym, ◌∙◌, subst, slice_get, length, get_or, set}
-use Rattle.std.proofs.lemmas.Bool.{cases_eq, cases_lt}
-use Rattle.std.proofs.lemmas.List.{get_or-set_same, get_or-set_other, set_past, get_or_past}
-use Rattle.std.proofs.lemmas.Option.{slice_get_past}
-use Rattle.std.specs.Prelude.{unwrap_or, if◌then◌else◌}
-use Rattle.lk_names.specs.Names.{same_lock, same_waiter}
-use Rattle.lk_names.specs.declared.names.Waiter.{Waiter}
-use Rattle.lk_names.specs.declared.names.LockName.{LockName}
-use Rattle.lk_word.specs.declared.spin_word.Fields.{Fields}
-use Rattle.lk_rows.specs.declared.parts.Frame.{Frame}
-use Rattle.lk_rows.specs.Machine.{Machine, CpuState, LockState, cpu_at, lock_at, word_at}
-use Rattle.lk_rows.specs.Machine.{frame_at, depth_at, top_of, top_frame, set_cpu, set_lock}
-use Rattle.lk_rows.specs.Machine.{set_word, no_cpu, rest_lock, rest_frame}
-use Rattle.lk_law.proofs.common.Cases.{waiter_cases, lock_cases}
-use Rattle.lk_law.proofs.common.Sames.{same_waiter-self, same_lock-self}
-use Rattle.lk_law.proofs.common.Puts.{same_waiter-else, same_lock-else}
+use Rattle.std.proofs.Common.{if◌then◌else◌}
+use Rattle.std.proofs.lemmas.List.{get_or-set_same, get_or-set_other, set_past}
+use Rattle.std.specs.Prelude.{unwrap_or}
+use Rattle.lk_core.proofs.Names.{cases_eq, cases_lt, get_or_past, slice_get_past, Fields, same_lock}
+use Rattle.lk_core.proofs.Names.{same_waiter, LockName, Waiter, CpuState, LockState, Machine}
+use Rattle.lk_core.proofs.Names.{no_cpu, rest_frame, rest_lock, top_frame, top_of, Frame}
+use Rattle.lk_core.proofs.Names.{lock_cases, waiter_cases, same_lock-else, same_waiter-else}
+use Rattle.lk_core.proofs.Names.{same_lock-self, same_waiter-self}
+use Rattle.lk_rows.specs.Machine.{cpu_at, lock_at, word_at, frame_at, depth_at, set_cpu, set_lock}
+use Rattle.lk_rows.specs.Machine.{set_word}
 
 -- the record of a processor after one was written
 pub cpu_same : (m : Machine) (p : ℕ) (c : CpuState) → p < length m.cpus

@@ -1,48 +1,32 @@
 -- What holds of an act that was done as it is written.
 use Rattle.std.proofs.Common.{◌≡◌, ℕ, Option, Some, None, Bool, true, false, List, inl, inr, arith}
 use Rattle.std.proofs.Common.{ap, ◌<◌, ◌≤◌, ◌+◌, ◌-◌, ◌^◌, refl, sym, ◌∙◌, subst, length}
-use Rattle.std.specs.Prelude.{if◌then◌else◌, ◌||◌, ◌&&◌, not, nat_le, slice_set}
+use Rattle.std.proofs.Common.{if◌then◌else◌, ◌||◌, ◌&&◌, not, nat_le, slice_set}
+use Rattle.std.proofs.lemmas.Bool.{lt-leb, or_from, or_right, and_from, not_from_false}
 use Rattle.std.proofs.lemmas.List.{set-get_or}
-use Rattle.std.proofs.lemmas.Bool.{cases_Bool, lt-leb, or_from, or_right, and_from, not_from_false}
-use Rattle.lk_names.specs.History.{LockHistory}
-use Rattle.lk_names.specs.declared.names.LockName.{LockName}
-use Rattle.lk_names.specs.declared.events.Act.{Act}
-use Rattle.lk_names.specs.declared.events.Act.TheVariants as act
-use Rattle.lk_names.specs.declared.events.Event.{Event}
+use Rattle.lk_core.proofs.Names.{cases_Bool, LockHistory, Act, Event, LockName, awake}
+use Rattle.lk_core.proofs.Names.{handler_frame, idle, interrupted, is_shut, nudged, processor_of}
+use Rattle.lk_core.proofs.Names.{stands_halting, step, step_halted, CpuState, HasTop, Machine}
+use Rattle.lk_core.proofs.Names.{no_cpu, rest_frame, top_frame, settled, HasPrograms, handlers_of}
+use Rattle.lk_core.proofs.Names.{Answer, row, Frame, Pc, Setup, CountsWithin, with_event, ShowsAll}
+use Rattle.lk_core.proofs.Names.{told_on}
 use Rattle.lk_names.specs.declared.events.What.TheVariants.{Int}
-use Rattle.lk_rows.specs.declared.family.Family.TheVariants as family
-use Rattle.lk_rows.specs.Family.{family_of}
-use Rattle.lk_rows.specs.declared.parts.Pc.{Pc}
-use Rattle.lk_rows.specs.Machine.{Machine, CpuState, no_cpu, cpu_at, set_cpu, set_preempted}
-use Rattle.lk_rows.specs.Machine.{depth_at, preempted_at, halted_at, handlers_at}
-use Rattle.lk_rows.specs.Machine.{top_frame, rest_frame, push, HasTop}
-use Rattle.lk_rows.specs.declared.setup.Setup.{Setup}
-use Rattle.lk_rows.specs.declared.parts.Frame.{Frame}
-use Rattle.lk_rows.specs.Programs.{HasPrograms, handlers_of}
-use Rattle.lk_rows.specs.Moves.{settled}
-use Rattle.lk_rows.specs.Row.{Answer}
-use Rattle.lk_rows.specs.TopRow.{row}
-use Rattle.lk_rows.specs.Acts.{idle, stands_halting, nudged, step, step_halted, is_shut}
-use Rattle.lk_rows.specs.Acts.{handler_frame, awake, interrupted, next as done, processor_of}
-use Rattle.lk_machine.specs.Ready.{CountsWithin, IsReady}
-use Rattle.lk_law.specs.Steps.{told_on}
+use Rattle.lk_rows.specs.{Acts.next as done, Family.family_of}
+use Rattle.lk_rows.specs.Machine.{cpu_at, set_cpu, set_preempted, depth_at, preempted_at, halted_at}
+use Rattle.lk_rows.specs.{Machine.{handlers_at, push}, declared.family.Family.Family}
+use Rattle.lk_rows.specs.declared.family.Family.TheVariants.{Spin, Queue, Cna, Pv, Rw}
+use Rattle.lk_machine.specs.Ready.{IsReady}
 use Rattle.lk_cna.specs.Row.{IsCnaReady}
 use Rattle.lk_rw.specs.Row.{IsRwReady}
-use Rattle.lk_law.specs.Sound.{ShowsAll, IsSound}
-use Rattle.lk_law.specs.MachineLaws.{ShowsLawful}
-use Rattle.lk_law.specs.Kicked.{with_event}
 use Rattle.lk_pv.specs.Row.{IsPvReady}
-use Rattle.lk_core.specs.Idle.{IsIdle, Happens}
-use Rattle.lk_core.proofs.ActKept.{act_kept}
-use Rattle.lk_core.proofs.CountsKept.{counts_within}
+use Rattle.lk_law.specs.{MachineLaws.ShowsLawful, Sound.IsSound}
+use Rattle.lk_core.proofs.{ActKept.act_kept, CountsKept.counts_within}
 use Rattle.lk_core.proofs.IdleActs.{awake_same, idle_act, busy_act}
-use Rattle.lk_core.proofs.Same.{has_top_same}
 use Rattle.lk_core.proofs.ReadyRows.{ready_at, cna_ready_at, rw_ready_at, pv_ready_at, has_programs}
-use Rattle.lk_core.proofs.Runs.{acts_keep}
-use Rattle.lk_core.proofs.Setups.{setup_kept}
-use Rattle.lk_rows.specs.declared.family.Family.{Family}
-use Rattle.lk_rows.specs.declared.family.Family.TheVariants.{Spin, Queue, Cna, Pv, Rw}
-use Rattle.lk_core.specs.Ready.{IsReadyFor, MakesARow, RowsAreReady}
+use Rattle.lk_core.proofs.{Runs.acts_keep, Same.has_top_same, Setups.setup_kept}
+use Rattle.lk_core.specs.{Idle.{IsIdle, Happens}, Ready.{IsReadyFor, MakesARow, RowsAreReady}}
+use Rattle.lk_names.specs.declared.events.Act.TheVariants as act
+use Rattle.lk_rows.specs.declared.family.Family.TheVariants as family
 
 -- n is the machine after the act, and e its event
 pub record IsDone (m : Machine) (a : Act) (n : Machine) (e : Option Event) : Type 0 where

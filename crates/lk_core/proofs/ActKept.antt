@@ -1,60 +1,36 @@
 -- Each act keeps what the machine shows, and its event is allowed.
 use Rattle.std.proofs.Common.{Option, ◌≡◌, ◌⊎◌, ℕ, Some, None, Bool, true, false, List, [], ◌∷◌}
-use Rattle.std.proofs.Common.{◌++◌, inl, inr, arith, ap, ◌<◌, ◌+◌, refl, sym, ◌∙◌, subst}
-use Rattle.std.proofs.Common.{length}
-use Rattle.std.specs.Prelude.{if◌then◌else◌, ◌||◌, ◌&&◌, not, nat_le}
-use Rattle.std.proofs.lemmas.Bool.{cases_Bool, or_parts, leb-false}
-use Rattle.std.proofs.lemmas.Option.{none-some, same_Some}
-use Rattle.lk_names.specs.History.{LockHistory}
-use Rattle.lk_names.specs.declared.names.Waiter.{Waiter}
-use Rattle.lk_names.specs.declared.names.LockName.{LockName}
-use Rattle.lk_names.specs.declared.events.Event.{Event}
+use Rattle.std.proofs.Common.{◌++◌, inl, inr, arith, ap, ◌<◌, ◌+◌, refl, sym, ◌∙◌, subst, length}
+use Rattle.std.proofs.Common.{if◌then◌else◌, ◌||◌, ◌&&◌, not, nat_le}
+use Rattle.std.proofs.lemmas.Bool.{or_parts, leb-false}
+use Rattle.lk_core.proofs.Names.{cases_Bool, none-some, same_Some, LockHistory, Act, Event}
+use Rattle.lk_core.proofs.Names.{LockName, Mode, Cna, Native, Pv, Virt, Waiter, after_halt, awake}
+use Rattle.lk_core.proofs.Names.{handler_frame, idle, interrupted, is_shut, kicked_awake, next}
+use Rattle.lk_core.proofs.Names.{nudged, processor_of, stands_halting, step, step_halted, woken}
+use Rattle.lk_core.proofs.Names.{Machine, rest_frame, top_frame, top_of, program_of, settled}
+use Rattle.lk_core.proofs.Names.{handlers_of, rules_of, row, Frame, Pc, E2, W6, W7, Setup, Verb}
+use Rattle.lk_core.proofs.Names.{Lock, Try, Unlock, held_goes, is_rw_row, ShowsKicks, IsNewest}
+use Rattle.lk_core.proofs.Names.{BelongsTo, Fits, Footing, ShowsAll, Works, held_at, held_of}
+use Rattle.lk_core.proofs.Names.{is_over, owes_kick, world, IsSoundWorld, rw_phase_of, spin_part}
+use Rattle.lk_core.proofs.Names.{told_on, World}
 use Rattle.lk_names.specs.declared.events.What.{What}
 use Rattle.lk_names.specs.declared.events.What.TheVariants.{Int, Wake, Nudge}
-use Rattle.lk_names.specs.declared.names.Mode.{Mode}
-use Rattle.lk_names.specs.declared.names.Mode.TheVariants.{Virt, Native, Cna, Pv}
-use Rattle.lk_names.specs.declared.events.Act.{Act}
-use Rattle.lk_rows.specs.declared.setup.Setup.{Setup}
-use Rattle.lk_rows.specs.declared.setup.Verb.{Verb}
-use Rattle.lk_rows.specs.declared.setup.Verb.TheVariants.{Lock, Try, Unlock}
-use Rattle.lk_rows.specs.declared.parts.Pc.TheVariants.{W6, W7, E2, E12}
-use Rattle.lk_rows.specs.declared.parts.Frame.{Frame}
-use Rattle.lk_rows.specs.Machine.{Machine, frame_at, depth_at, preempted_at, halted_at}
-use Rattle.lk_rows.specs.Machine.{kicked_at, handlers_at, top_of, top_frame, rest_frame, set_top}
-use Rattle.lk_rows.specs.Machine.{set_kicked, set_preempted, push}
-use Rattle.lk_rows.specs.Programs.{handlers_of}
-use Rattle.lk_rows.specs.Moves.{program_of, settled}
-use Rattle.lk_rows.specs.TopRow.{row}
-use Rattle.lk_rows.specs.Acts.{idle, stands_halting, woken, step, step_halted, kicked_awake}
-use Rattle.lk_rows.specs.Acts.{after_halt, is_shut, handler_frame, awake, interrupted, nudged}
-use Rattle.lk_rows.specs.Acts.{next, processor_of}
-use Rattle.lk_rows.specs.declared.parts.Pc.{Pc}
-use Rattle.lk_law.specs.World.{World}
-use Rattle.lk_law.specs.Steps.{put_halted, put_kicked, told_on}
-use Rattle.lk_law.specs.Allowed.{MayFollow}
-use Rattle.lk_law.specs.Premises.{IsNewest, HasNoSleeper, roused}
-use Rattle.lk_law.specs.Kicked.{ShowsKicks}
+use Rattle.lk_rows.specs.Machine.{frame_at, depth_at, preempted_at, halted_at, kicked_at}
+use Rattle.lk_rows.specs.Machine.{handlers_at, set_top, set_kicked, set_preempted, push}
+use Rattle.lk_rows.specs.declared.parts.Pc.TheVariants.{E12}
+use Rattle.lk_law.proofs.pv.HaltLayers.{wake_keeps, nudge_keeps, int_keeps}
 use Rattle.lk_law.proofs.pv.HaltsEnd.{roused_is_awake, top_is_awake}
 use Rattle.lk_law.proofs.pv.HaltsShown.{wake_shows, nudge_shows, int_shows, int_awake_shows}
-use Rattle.lk_law.proofs.pv.HaltLayers.{wake_keeps, nudge_keeps, int_keeps}
-use Rattle.lk_law.proofs.common.HeldAfter.{held_goes}
-use Rattle.lk_law.specs.Sound.{world, held_at, held_of, BelongsTo, Footing, Works, Fits}
-use Rattle.lk_rows.specs.Rules.{rules_of}
-use Rattle.lk_law.specs.Sound.{ShowsAll, owes_kick, is_over}
-use Rattle.lk_law.specs.SoundWorld.{IsSoundWorld, spin_part, rw_phase_of}
-use Rattle.lk_law.specs.Families.{is_rw_row}
-use Rattle.lk_core.proofs.Leads.{SameHold}
-use Rattle.lk_core.proofs.Seated.{next_of, world-set_preempted, world-set_top}
-use Rattle.lk_core.proofs.Worlds.{world-set_halted, world-set_kicked}
-use Rattle.lk_core.proofs.Same.{KeepsFrames, same_then, same_set_top, same_set_halted}
-use Rattle.lk_core.proofs.Same.{same_set_kicked}
-use Rattle.lk_core.proofs.Same.{same_set_preempted, whole_same, fits_kept}
-use Rattle.lk_core.proofs.Settle.{fits_all}
-use Rattle.lk_core.proofs.Moved.{Ready, goes_fit, holding_same}
+use Rattle.lk_law.specs.{Allowed.MayFollow, Premises.{HasNoSleeper, roused}}
+use Rattle.lk_law.specs.Steps.{put_halted, put_kicked}
+use Rattle.lk_core.proofs.{FrameComes.{idle_kept, pushed_kicks, pushed_shows}, Leads.SameHold}
+use Rattle.lk_core.proofs.{Moved.{Ready, goes_fit, holding_same}, RowKept.{top_live, row_kept}}
 use Rattle.lk_core.proofs.RowParts.{StillShows}
+use Rattle.lk_core.proofs.Same.{KeepsFrames, same_then, same_set_top, same_set_halted}
+use Rattle.lk_core.proofs.Same.{same_set_kicked, same_set_preempted, whole_same, fits_kept}
+use Rattle.lk_core.proofs.{Seated.{next_of, world-set_preempted, world-set_top}, Settle.fits_all}
 use Rattle.lk_core.proofs.Stands.{Stance, Acts, Owes, Shares, stands, top_newest}
-use Rattle.lk_core.proofs.RowKept.{top_live, row_kept}
-use Rattle.lk_core.proofs.FrameComes.{idle_kept, pushed_kicks, pushed_shows}
+use Rattle.lk_core.proofs.Worlds.{world-set_halted, world-set_kicked}
 use Rattle.lk_names.specs.declared.events.Act.TheVariants as act
 
 -- The end of a halt.

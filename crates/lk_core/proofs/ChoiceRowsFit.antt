@@ -1,26 +1,15 @@
 -- Where a row of the choice leads, its frame fits its program still.
 use Rattle.std.proofs.Common.{◌≡◌, ℕ, ap, arith, [], ◌∷◌, ◌+◌, Option, Some, None, Bool, true}
-use Rattle.std.proofs.Common.{false, inl, inr, refl, sym, subst}
-use Rattle.std.specs.Prelude.{if◌then◌else◌, is_some}
-use Rattle.std.proofs.lemmas.Bool.{cases_Bool}
-use Rattle.lk_names.specs.declared.names.Mode.{Mode}
-use Rattle.lk_names.specs.declared.names.Mode.TheVariants.{Virt, Native, Cna, Pv}
-use Rattle.lk_word.specs.declared.spin_word.NodeName.{NodeName}
-use Rattle.lk_word.specs.declared.spin_word.Fields.{Fields}
-use Rattle.lk_rows.specs.declared.setup.Verb.{Verb}
-use Rattle.lk_rows.specs.declared.setup.Verb.TheVariants.{Lock, Try, Unlock}
-use Rattle.lk_rows.specs.declared.parts.Flag.{Flag}
-use Rattle.lk_rows.specs.declared.parts.Frame.{Frame}
-use Rattle.lk_rows.specs.declared.parts.Pc.{Pc}
-use Rattle.lk_rows.specs.declared.parts.Pc.TheVariants.{C1, C2, C3, C5, C7, C8, C10}
-use Rattle.lk_rows.specs.Row.{Effect, Lead, Goes, A, B, K, Reason, Y, Second, learns_all}
-use Rattle.lk_rows.specs.rows.Cna.{Sight, may_stay, after_none, after_tail, is_last, search_row}
-use Rattle.lk_rows.specs.rows.Cna.{second_row, runs_row, handover_row, promotion_row}
-use Rattle.lk_rows.specs.declared.parts.Why.{Why}
-use Rattle.lk_law.specs.Families.{chooses}
-use Rattle.lk_law.specs.Sound.{BelongsTo, is_virt_row, is_choosing_row}
-use Rattle.lk_law.specs.Families.{is_queued_row}
-use Rattle.lk_law.specs.Families.{is_halting_row}
+use Rattle.std.proofs.Common.{false, inl, inr, refl, sym, subst, if◌then◌else◌, is_some}
+use Rattle.lk_core.proofs.Names.{cases_Bool, Fields, NodeName, Mode, Cna, Native, Pv, Virt, Effect}
+use Rattle.lk_core.proofs.Names.{Goes, Lead, Flag, Frame, Pc, C1, C2, C3, C7, C8, C10, Verb, Lock}
+use Rattle.lk_core.proofs.Names.{Try, Unlock, Sight, after_none, handover_row, is_last, may_stay}
+use Rattle.lk_core.proofs.Names.{promotion_row, runs_row, search_row, second_row, chooses}
+use Rattle.lk_core.proofs.Names.{is_halting_row, is_queued_row, BelongsTo, is_choosing_row}
+use Rattle.lk_core.proofs.Names.{is_virt_row}
+use Rattle.lk_rows.specs.Row.{A, B, K, Reason, Y, Second, learns_all}
+use Rattle.lk_rows.specs.{declared.parts.Pc.TheVariants.C5, declared.parts.Why.Why}
+use Rattle.lk_rows.specs.rows.Cna.{after_tail}
 use Rattle.lk_core.proofs.Walks.{LeadFits}
 use Rattle.lk_rows.specs.declared.parts.Why.TheVariants as why
 

@@ -1,53 +1,36 @@
 -- An act adds one to some of the ten counts at most.
 use Rattle.std.proofs.Common.{◌≡◌, ℕ, Option, Some, None, Bool, true, false, List, [], ◌∷◌, inl}
-use Rattle.std.proofs.Common.{inr, arith, ap, ◌+◌, ◌≤◌, rules, refl, sym, ◌∙◌, subst}
-use Rattle.std.specs.Prelude.{if◌then◌else◌, ◌==◌, ◌&&◌, ◌-◌, is_some}
-use Rattle.std.proofs.lemmas.Bool.{cases_Bool}
-use Rattle.lk_names.specs.declared.names.Mode.{Mode}
-use Rattle.lk_names.specs.declared.names.Mode.TheVariants.{Pv}
-use Rattle.lk_names.specs.declared.names.LockName.{LockName}
-use Rattle.lk_names.specs.declared.events.Act.{Act}
-use Rattle.lk_names.specs.declared.events.Act.TheVariants as act
-use Rattle.lk_word.specs.declared.spin_word.NodeName.{NodeName}
-use Rattle.lk_word.specs.declared.spin_word.Fields.{Fields}
-use Rattle.lk_rows.specs.declared.parts.Counts.{Counts}
-use Rattle.lk_rows.specs.declared.parts.Flag.{Flag}
-use Rattle.lk_rows.specs.declared.parts.State.{State}
-use Rattle.lk_rows.specs.declared.parts.Flag.TheVariants as flag
-use Rattle.lk_rows.specs.declared.parts.Frame.{Frame}
-use Rattle.lk_rows.specs.declared.parts.Pc.{Pc}
-use Rattle.lk_rows.specs.declared.parts.Pc.TheVariants.{F1, T1, T2, V2, P4, G3, G4, G6, G8, G10}
-use Rattle.lk_rows.specs.declared.parts.Pc.TheVariants.{N2, C1, C2, C3, C6, C7, C8, C10, H2, W2}
-use Rattle.lk_rows.specs.declared.parts.Pc.TheVariants.{W4, W6, W7, E1, E4, E6, E7, E10, E13}
-use Rattle.lk_rows.specs.declared.parts.Pc.TheVariants.{E14, K1, U2, U5, R1, R2, R5, Wr1, Wr3}
-use Rattle.lk_rows.specs.declared.parts.Pc.TheVariants.{Wr6, Y1, Y2, Y4, Y5}
-use Rattle.lk_rows.specs.Machine.{Machine, CpuState, LockState, word_at, node_at, queued_at}
-use Rattle.lk_rows.specs.Machine.{preempted_at, halted_at, top_frame, set_cpu, set_lock}
-use Rattle.lk_rows.specs.Machine.{set_entry, entry_at, kicked_at, set_counts, rw_at}
-use Rattle.lk_rows.specs.Row.{Effect, Lead, Counter, LockPending, LockSlowpath, LockUseNode2}
-use Rattle.lk_rows.specs.Row.{LockUseNode3, LockUseNode4, LockNoNode, moved, counted, count_all}
-use Rattle.lk_rows.specs.rows.Spin.{spin_row, is_free, is_unlocked}
-use Rattle.lk_rows.specs.rows.Queue.{queue_row, entry_row, flag_row, next_row, index_count}
-use Rattle.lk_rows.specs.rows.Queue.{entry_counts, is_sole, after_arrival}
-use Rattle.lk_rows.specs.TopRow.{Target, SpinWord, QueueWord, Queued, FlagOf, NextOf, ChoiceWord}
-use Rattle.lk_rows.specs.TopRow.{ChoiceFlag, ChoiceNext, SecondTailOf, RunsOf, PvWord, PvFlag}
-use Rattle.lk_rows.specs.TopRow.{PvNext, StateOf, HashEntry, Halted, KickOf, target, sight_at}
-use Rattle.lk_rows.specs.TopRow.{stored_second, stored_runs, stored_state, stored_entry}
-use Rattle.lk_rows.specs.TopRow.{stored_halted, stored_kicked, stored_word, stored_flag}
-use Rattle.lk_rows.specs.TopRow.{stored_next, stored_queued, row_on, row_at, row, RwWord}
-use Rattle.lk_rows.specs.TopRow.{stored_rw}
-use Rattle.lk_rows.specs.rows.Cna.{Sight, may_stay, after_none, is_last, is_held, search_row}
-use Rattle.lk_rows.specs.rows.Cna.{second_row, runs_row, handover_row, promotion_row}
-use Rattle.lk_rows.specs.rows.Pv.{is_set, is_running, is_halted, pv_row, pv_flag_row}
-use Rattle.lk_rows.specs.rows.Pv.{pv_next_row, state_row, hash_row, halt_row, kick_row}
-use Rattle.lk_rows.specs.Acts.{idle, step_halted, step, next}
-use Rattle.lk_machine.specs.Ready.{CountsWithin}
+use Rattle.std.proofs.Common.{inr, arith, ap, ◌+◌, ◌≤◌, rules, refl, sym, ◌∙◌, subst, if◌then◌else◌}
+use Rattle.std.proofs.Common.{◌==◌, ◌&&◌, ◌-◌, is_some}
+use Rattle.lk_core.proofs.Names.{cases_Bool, RwFields, Fields, NodeName, Act, LockName, Mode, Pv}
+use Rattle.lk_core.proofs.Names.{idle, next, step, step_halted, CpuState, LockState, Machine}
+use Rattle.lk_core.proofs.Names.{top_frame, Counter, Effect, Lead, counted, moved, ChoiceFlag}
+use Rattle.lk_core.proofs.Names.{ChoiceNext, ChoiceWord, FlagOf, Halted, HashEntry, KickOf, NextOf}
+use Rattle.lk_core.proofs.Names.{PvFlag, PvNext, PvWord, QueueWord, Queued, RunsOf, RwWord}
+use Rattle.lk_core.proofs.Names.{SecondTailOf, SpinWord, StateOf, Target, row, row_at, row_on}
+use Rattle.lk_core.proofs.Names.{sight_at, stored_entry, stored_flag, stored_halted, stored_kicked}
+use Rattle.lk_core.proofs.Names.{stored_next, stored_queued, stored_runs, stored_rw, stored_second}
+use Rattle.lk_core.proofs.Names.{stored_state, stored_word, target, Counts, Flag, Frame, Pc, C1, C2}
+use Rattle.lk_core.proofs.Names.{C3, C6, C7, C8, C10, E1, E4, E6, E7, E10, E13, E14, F1, G3, G4, G6}
+use Rattle.lk_core.proofs.Names.{G8, G10, H2, K1, N2, P4, R1, R2, R5, T1, T2, U2, U5, V2, W2, W4}
+use Rattle.lk_core.proofs.Names.{W6, W7, Wr1, Wr3, Wr6, Y1, Y2, Y4, Y5, State, Sight, after_none}
+use Rattle.lk_core.proofs.Names.{handover_row, is_held, is_last, may_stay, promotion_row, runs_row}
+use Rattle.lk_core.proofs.Names.{search_row, second_row, halt_row, hash_row, is_halted, is_running}
+use Rattle.lk_core.proofs.Names.{is_set, kick_row, pv_flag_row, pv_next_row, pv_row, state_row}
+use Rattle.lk_core.proofs.Names.{entry_row, flag_row, is_sole, next_row, queue_row, is_cleared}
+use Rattle.lk_core.proofs.Names.{is_empty, is_open, rw_row, is_free, is_unlocked, spin_row}
+use Rattle.lk_core.proofs.Names.{CountsWithin}
+use Rattle.lk_rows.specs.Machine.{word_at, node_at, queued_at, preempted_at, halted_at, set_cpu}
+use Rattle.lk_rows.specs.Machine.{set_lock, set_entry, entry_at, kicked_at, set_counts, rw_at}
+use Rattle.lk_rows.specs.Row.{LockPending, LockSlowpath, LockUseNode2, LockUseNode3, LockUseNode4}
+use Rattle.lk_rows.specs.Row.{LockNoNode, count_all}
+use Rattle.lk_rows.specs.rows.Queue.{index_count, entry_counts, after_arrival}
 use Rattle.lk_core.proofs.Parts.{part-moved, part-stored_word, part-stored_flag, part-stored_next}
 use Rattle.lk_core.proofs.Parts.{part-stored_second, part-stored_runs, part-stored_state}
 use Rattle.lk_core.proofs.Parts.{part-stored_entry, part-stored_halted, part-stored_kicked}
 use Rattle.lk_core.proofs.Parts.{part-stored_queued, part-step_halted, part-rest, part-stored_rw}
-use Rattle.lk_word.specs.declared.rw_word.RwFields.{RwFields}
-use Rattle.lk_rows.specs.rows.Rw.{rw_row, is_empty, is_open, is_cleared}
+use Rattle.lk_names.specs.declared.events.Act.TheVariants as act
+use Rattle.lk_rows.specs.declared.parts.Flag.TheVariants as flag
 
 -- no count rises by more than one
 record StepsUp (c d : Counts) : Type 0 where

@@ -1,15 +1,11 @@
 -- The entries of the hash after a lock was entered, or taken out.
 use Rattle.std.proofs.Common.{◌≡◌, ◌≢◌, Option, Some, None, Bool, true, false, List, [], ◌∷◌, inl}
-use Rattle.std.proofs.Common.{inr, arith, ap, refl, sym, ◌∙◌}
-use Rattle.std.specs.Prelude.{if◌then◌else◌, nat_lt}
-use Rattle.lk_names.specs.Names.{same_lock}
-use Rattle.lk_names.specs.declared.names.LockName.{LockName}
-use Rattle.lk_word.specs.declared.spin_word.NodeName.{NodeName}
-use Rattle.lk_rows.specs.Machine.{entry_in, lock_number, with_entry, without_entry}
-use Rattle.lk_law.specs.Sound.{IsEnteredOnce}
-use Rattle.lk_law.proofs.common.Cases.{lock_cases}
-use Rattle.lk_law.proofs.common.Puts.{if-true, if-false, same_lock-else}
-use Rattle.lk_law.proofs.common.Sames.{same_lock-self, same_lock-true}
+use Rattle.std.proofs.Common.{inr, arith, ap, refl, sym, ◌∙◌, if◌then◌else◌, nat_lt}
+use Rattle.lk_core.proofs.Names.{NodeName, same_lock, LockName, with_entry, without_entry}
+use Rattle.lk_core.proofs.Names.{lock_cases, if-false, if-true, same_lock-else, same_lock-self}
+use Rattle.lk_core.proofs.Names.{IsEnteredOnce}
+use Rattle.lk_rows.specs.Machine.{entry_in, lock_number}
+use Rattle.lk_law.proofs.common.Sames.{same_lock-true}
 
 -- a lock with its node
 abbrev pub Entry : Type 0

@@ -1,42 +1,23 @@
 -- A frame comes on top of a processor, and one without a place goes on or ends.
-use Rattle.std.proofs.Common.{Option, ◌≡◌, ◌≢◌, ℕ, Some, None, Bool, true, false, List, inl}
-use Rattle.std.proofs.Common.{inr, arith, ap, ◌<◌, ◌≤◌, ◌-◌, refl, sym, ◌∙◌, subst, length}
-use Rattle.std.specs.Prelude.{if◌then◌else◌, ◌||◌}
-use Rattle.std.proofs.lemmas.Bool.{cases_eq}
-use Rattle.std.proofs.lemmas.Option.{none-some, same_Some}
-use Rattle.lk_names.specs.Names.{same_waiter}
-use Rattle.lk_names.specs.History.{LockHistory}
-use Rattle.lk_names.specs.declared.names.Waiter.{Waiter}
-use Rattle.lk_names.specs.declared.names.LockName.{LockName}
-use Rattle.lk_names.specs.declared.events.Event.{Event}
-use Rattle.lk_rows.specs.declared.parts.Frame.{Frame}
-use Rattle.lk_rows.specs.Machine.{Machine, frame_at, depth_at, handlers_at, top_of, push, HasTop}
-use Rattle.lk_rows.specs.Programs.{handlers_of, way_at}
-use Rattle.lk_rows.specs.Moves.{program_of, settled}
-use Rattle.lk_rows.specs.Acts.{idle, handler_frame}
-use Rattle.lk_rows.specs.declared.parts.Pc.{Pc}
-use Rattle.lk_law.specs.World.{World}
-use Rattle.lk_law.specs.Steps.{put_frame}
+use Rattle.std.proofs.Common.{Option, ◌≡◌, ◌≢◌, ℕ, Some, None, Bool, true, false, List, inl, inr}
+use Rattle.std.proofs.Common.{arith, ap, ◌<◌, ◌≤◌, ◌-◌, refl, sym, ◌∙◌, subst, length}
+use Rattle.std.proofs.Common.{if◌then◌else◌, ◌||◌}
+use Rattle.lk_core.proofs.Names.{cases_eq, none-some, same_Some, LockHistory, same_waiter, Event}
+use Rattle.lk_core.proofs.Names.{LockName, Waiter, handler_frame, idle, HasTop, Machine, top_of}
+use Rattle.lk_core.proofs.Names.{program_of, settled, handlers_of, way_at, Frame, Pc, waiter_cases}
+use Rattle.lk_core.proofs.Names.{same_waiter-else, same_waiter-self, ShowsKicks, is_inner, ShowsAll}
+use Rattle.lk_core.proofs.Names.{frees, held_at, held_idle, held_of, owes_kick, world, IsSoundWorld}
+use Rattle.lk_core.proofs.Names.{RwFits, rw_phase_if, put_frame, World}
+use Rattle.lk_rows.specs.Machine.{frame_at, depth_at, handlers_at, push}
+use Rattle.lk_law.proofs.{pv.HaltsShown.end_shows, rw.Begins.end_keeps}
 use Rattle.lk_law.specs.Premises.{HasNoSleeper}
-use Rattle.lk_law.specs.Kicked.{ShowsKicks}
-use Rattle.lk_law.proofs.pv.HaltsShown.{end_shows}
-use Rattle.lk_law.specs.Sound.{world, held_at, held_of, ShowsAll, held_idle, frees, owes_kick}
-use Rattle.lk_law.proofs.common.Cases.{waiter_cases}
-use Rattle.lk_law.proofs.common.Sames.{same_waiter-self}
-use Rattle.lk_law.proofs.common.Puts.{same_waiter-else}
-use Rattle.lk_law.specs.SoundWorld.{IsSoundWorld, RwFits, rw_phase_if}
-use Rattle.lk_law.specs.RwPhase.{is_inner}
-use Rattle.lk_law.proofs.rw.Begins.{end_keeps}
-use Rattle.lk_core.proofs.Kicks.{SameKicks, asleep_in, owed_in, kicks_same, kicks_then}
-use Rattle.lk_core.proofs.Kicks.{kicks_settled}
 use Rattle.lk_core.proofs.Access.{above_top}
-use Rattle.lk_core.proofs.Seated.{alike, next_of, world-push}
+use Rattle.lk_core.proofs.Kicks.{SameKicks, asleep_in, owed_in, kicks_same, kicks_then}
+use Rattle.lk_core.proofs.{Kicks.kicks_settled, Moved.holding_same, RowParts.StillShows}
 use Rattle.lk_core.proofs.Same.{Keeps, keeps_push, handlers_push, handlers_push_other, depth_push}
 use Rattle.lk_core.proofs.Same.{tops_push, whole_kept, fits_kept}
-use Rattle.lk_core.proofs.Settle.{Between, ended_at, settled_shows}
-use Rattle.lk_core.proofs.Moved.{holding_same}
-use Rattle.lk_core.proofs.Walks.{IsOuter, outer_held}
-use Rattle.lk_core.proofs.RowParts.{StillShows}
+use Rattle.lk_core.proofs.Seated.{alike, next_of, world-push}
+use Rattle.lk_core.proofs.{Settle.{Between, ended_at, settled_shows}, Walks.{IsOuter, outer_held}}
 
 pub idle_kept : (m : Machine) (hs : LockName → LockHistory) → ShowsAll m hs
     → StillShows m hs (idle m)

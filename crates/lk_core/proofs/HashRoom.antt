@@ -2,38 +2,21 @@
 -- waiter, which acts on one lock.
 use Rattle.std.proofs.Common.{◌≡◌, ◌≢◌, ℕ, zero, suc, ◌+◌, ◌*◌, ◌<◌, ◌≤◌, Option, Some, None, Bool}
 use Rattle.std.proofs.Common.{true, false, eqb, List, [], ◌∷◌, map, length, get_or, slice_get}
-use Rattle.std.proofs.Common.{arith, ap, refl, sym, ◌∙◌, subst}
-use Rattle.std.specs.Prelude.{if◌then◌else◌}
-use Rattle.std.specs.List.{IsDistinct, All}
-use Rattle.std.proofs.lemmas.Bool.{eqb-true, ne_eqb}
-use Rattle.std.proofs.lemmas.Option.{slice_get-get_or, same_Some, none-some}
-use Rattle.std.proofs.lemmas.List.{get_or-map, length-map}
-use Rattle.std.proofs.lemmas.List.Elements.{All-map}
-use Rattle.std.proofs.lemmas.List.Folds.{Any-from_list_any}
+use Rattle.std.proofs.Common.{arith, ap, refl, sym, ◌∙◌, subst, if◌then◌else◌}
+use Rattle.std.proofs.{lemmas.Bool.eqb-true, lemmas.List.{get_or-map, length-map}}
+use Rattle.std.proofs.{lemmas.List.Elements.All-map, lemmas.List.Folds.Any-from_list_any}
 use Rattle.std.proofs.lemmas.Map.Keys.{IsDistinct-from_apart}
 use Rattle.std.proofs.lemmas.Map.Steps.{length-le_from_distinct_below}
-use Rattle.lk_names.specs.Names.{same_lock}
-use Rattle.lk_names.specs.History.{LockHistory}
-use Rattle.lk_names.specs.declared.names.Waiter.{Waiter}
-use Rattle.lk_names.specs.declared.names.LockName.{LockName}
-use Rattle.lk_word.specs.declared.spin_word.NodeName.{NodeName}
-use Rattle.lk_rows.specs.declared.parts.Frame.{Frame}
-use Rattle.lk_rows.specs.Machine.{Machine, frame_at, entry_at, entry_in}
-use Rattle.lk_law.specs.Phase.{Phase, queues}
-use Rattle.lk_law.specs.Phase.Phase.{Idle}
-use Rattle.lk_law.specs.Agree.{halts}
-use Rattle.lk_law.specs.Places.{phase_on, phase_of}
-use Rattle.lk_law.specs.Premises.{Uses}
-use Rattle.lk_law.specs.Known.{IsOwnNode}
-use Rattle.lk_law.specs.SoundWorld.{spin_part}
-use Rattle.lk_law.specs.Sound.{world, ShowsAll, IsEnteredOnce}
-use Rattle.lk_law.proofs.common.Families.{lists_main}
-use Rattle.lk_law.proofs.common.Knows.{entry_is_used}
-use Rattle.lk_law.proofs.common.Users.{node_is_ones}
-use Rattle.lk_law.proofs.common.Puts.{if-true, if-false, same_lock-else}
-use Rattle.lk_law.proofs.common.Sames.{same_lock-self, same_lock-true}
-use Rattle.lk_core.proofs.Access.{frame_within}
-use Rattle.lk_core.proofs.Entries.{Entry}
+use Rattle.std.specs.List.{IsDistinct, All}
+use Rattle.lk_core.proofs.Names.{ne_eqb, none-some, same_Some, slice_get-get_or, NodeName}
+use Rattle.lk_core.proofs.Names.{LockHistory, same_lock, LockName, Waiter, Machine, Frame, if-false}
+use Rattle.lk_core.proofs.Names.{if-true, same_lock-else, same_lock-self, halts, IsOwnNode, Phase}
+use Rattle.lk_core.proofs.Names.{queues, Idle, phase_of, phase_on, Uses, IsEnteredOnce, ShowsAll}
+use Rattle.lk_core.proofs.Names.{world, spin_part}
+use Rattle.lk_rows.specs.Machine.{frame_at, entry_at, entry_in}
+use Rattle.lk_law.proofs.{common.Families.lists_main, common.Knows.entry_is_used}
+use Rattle.lk_law.proofs.{common.Sames.same_lock-true, common.Users.node_is_ones}
+use Rattle.lk_core.proofs.{Access.frame_within, Entries.Entry}
 
 -- the number of a node
 abbrev number : NodeName → ℕ

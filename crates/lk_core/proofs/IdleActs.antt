@@ -1,33 +1,22 @@
 -- An act is idle exactly where it is said to be.
 use Rattle.std.proofs.Common.{◌≡◌, ℕ, Option, Some, None, Bool, true, false, inl, inr, arith, ap}
-use Rattle.std.proofs.Common.{◌<◌, ◌+◌, refl, ◌∙◌, length}
-use Rattle.std.specs.Prelude.{if◌then◌else◌, ◌||◌, ◌&&◌, ◌==◌, not, nat_le, slice_get}
-use Rattle.std.proofs.lemmas.Bool.{cases_Bool, le-leb, leb-true, false_from_ne_true}
-use Rattle.std.proofs.lemmas.Bool.{true_from_ne_false, or_left, or_right, or_cases, and_from}
-use Rattle.std.proofs.lemmas.Bool.{and_parts, not-true, not_from_false}
-use Rattle.lk_names.specs.History.{LockHistory}
-use Rattle.lk_names.specs.declared.names.LockName.{LockName}
-use Rattle.lk_names.specs.declared.events.Act.{Act}
-use Rattle.lk_names.specs.declared.events.Act.TheVariants as act
-use Rattle.lk_rows.specs.declared.setup.Op.{Op}
-use Rattle.lk_rows.specs.declared.parts.Frame.{Frame}
-use Rattle.lk_rows.specs.declared.parts.Pc.{Pc}
-use Rattle.lk_rows.specs.Machine.{Machine, CpuState, cpu_at, depth_at, preempted_at, halted_at}
-use Rattle.lk_rows.specs.Machine.{kicked_at, handlers_at, top_frame, set_preempted, set_top}
-use Rattle.lk_rows.specs.Machine.{push, pop}
-use Rattle.lk_rows.specs.Programs.{handlers_of}
-use Rattle.lk_rows.specs.Moves.{settled, settled_at, program_of, started}
-use Rattle.lk_rows.specs.Row.{Answer}
-use Rattle.lk_rows.specs.TopRow.{row, row_at}
-use Rattle.lk_rows.specs.Acts.{idle, stands_halting, after_halt, woken, kicked_awake}
-use Rattle.lk_rows.specs.Acts.{step_halted, is_shut, handler_frame, awake, interrupted, next}
-use Rattle.lk_rows.specs.Acts.{processor_of, nudged}
-use Rattle.lk_law.specs.Sound.{ShowsAll}
-use Rattle.lk_core.proofs.Access.{cpu_same}
+use Rattle.std.proofs.Common.{◌<◌, ◌+◌, refl, ◌∙◌, length, if◌then◌else◌, ◌||◌, ◌&&◌, ◌==◌, not}
+use Rattle.std.proofs.Common.{nat_le, slice_get}
+use Rattle.std.proofs.lemmas.Bool.{le-leb, leb-true, false_from_ne_true, true_from_ne_false}
+use Rattle.std.proofs.lemmas.Bool.{or_left, or_right, or_cases, and_from, and_parts, not-true}
+use Rattle.std.proofs.lemmas.Bool.{not_from_false}
+use Rattle.lk_core.proofs.Names.{cases_Bool, LockHistory, Act, LockName, after_halt, awake}
+use Rattle.lk_core.proofs.Names.{handler_frame, idle, interrupted, is_shut, kicked_awake, next}
+use Rattle.lk_core.proofs.Names.{nudged, processor_of, stands_halting, step_halted, woken, CpuState}
+use Rattle.lk_core.proofs.Names.{Machine, top_frame, program_of, settled, settled_at, started}
+use Rattle.lk_core.proofs.Names.{handlers_of, Answer, row, row_at, Frame, Pc, Op, ShowsAll}
+use Rattle.lk_rows.specs.Machine.{cpu_at, depth_at, preempted_at, halted_at, kicked_at, handlers_at}
+use Rattle.lk_rows.specs.Machine.{set_preempted, set_top, push, pop}
+use Rattle.lk_core.proofs.{Access.cpu_same, ActKept.at_halt}
 use Rattle.lk_core.proofs.Same.{KeepsFrames, same_then, same_self, same_set_top, same_set_halted}
 use Rattle.lk_core.proofs.Same.{handlers_pop, handlers_push}
-use Rattle.lk_core.proofs.ActKept.{at_halt}
 use Rattle.lk_core.specs.Idle.{IsIdle, Happens}
+use Rattle.lk_names.specs.declared.events.Act.TheVariants as act
 
 handlers_settled_at : (n : Machine) (p : ℕ) (h : Frame) (o : Option Op) (q : ℕ)
     → handlers_at (settled_at n p h o) q ≡ handlers_at n q

@@ -1,44 +1,23 @@
 -- The top frame goes where its row leads, or begins its next operation: what the machine shows of
 -- halts and kicks is what the world after the row shows.
 use Rattle.std.proofs.Common.{◌≡◌, ℕ, Option, Some, None, Bool, true, false, List, inl, inr, ap}
-use Rattle.std.proofs.Common.{◌+◌, ◌-◌, refl, sym, ◌∙◌, subst, slice_get}
-use Rattle.std.specs.Prelude.{if◌then◌else◌, ◌==◌}
-use Rattle.std.proofs.lemmas.Bool.{cases_Bool}
-use Rattle.std.proofs.lemmas.Option.{same_Some, none-some}
-use Rattle.lk_names.specs.Names.{same_waiter}
-use Rattle.lk_names.specs.declared.holder.Manner.{Manner}
-use Rattle.lk_names.specs.declared.names.Mode.{Mode}
-use Rattle.lk_names.specs.declared.names.Mode.TheVariants.{Virt, Native, Cna, Pv}
-use Rattle.lk_names.specs.declared.names.Waiter.{Waiter}
-use Rattle.lk_names.specs.declared.names.LockName.{LockName}
-use Rattle.lk_names.specs.declared.events.Event.{Event}
-use Rattle.lk_rows.specs.declared.setup.Op.{Op}
-use Rattle.lk_rows.specs.declared.setup.Verb.{Verb}
-use Rattle.lk_rows.specs.declared.setup.Verb.TheVariants.{Lock, Try, Unlock, Read, TryRead}
-use Rattle.lk_rows.specs.declared.setup.Verb.TheVariants.{RUnlock, Write, TryWrite, WUnlock}
-use Rattle.lk_rows.specs.declared.parts.Frame.{Frame}
-use Rattle.lk_rows.specs.declared.parts.Pc.{Pc}
-use Rattle.lk_rows.specs.declared.parts.Pc.TheVariants.{U5}
-use Rattle.lk_rows.specs.Machine.{Machine, frame_at, queued_at, top_of, set_top, set_node}
-use Rattle.lk_rows.specs.Machine.{rest_node, HasTop}
-use Rattle.lk_rows.specs.Moves.{node_of, first_place, started, settled, settled_at, program_of}
-use Rattle.lk_rows.specs.Moves.{granted, waiting, skipped}
-use Rattle.lk_rows.specs.Row.{Lead, Goes, Enters, Granted, Freed, Missed, Done, TakesWait}
-use Rattle.lk_rows.specs.Row.{Leaves, Yields, gone, entered, moved}
-use Rattle.lk_law.specs.Pv.{at_halt}
-use Rattle.lk_law.specs.World.{World}
-use Rattle.lk_law.specs.Places.{post_of, post_if}
-use Rattle.lk_law.specs.Steps.{put_frame, put_held, put_queued, led, lead_on}
-use Rattle.lk_law.specs.Kicked.{Rests, Owes, ShowsKicks}
-use Rattle.lk_law.specs.Sound.{world}
-use Rattle.lk_core.proofs.Seated.{seated, world-set_top, world-pop}
-use Rattle.lk_core.proofs.Worlds.{frame-set_node, halted-set_node}
-use Rattle.lk_core.proofs.Worlds.{kicked-set_node}
-use Rattle.lk_core.proofs.Same.{top_same, has_top_same, same_set_node}
-use Rattle.lk_core.proofs.Moved.{Ready}
-use Rattle.lk_core.proofs.LeadsOut.{left, left_same, left_world, left_ready, leave_is, rewritten}
-use Rattle.lk_core.proofs.LeadsOut.{done_is, missed_is}
+use Rattle.std.proofs.Common.{◌+◌, ◌-◌, refl, sym, ◌∙◌, subst, slice_get, if◌then◌else◌, ◌==◌}
+use Rattle.lk_core.proofs.Names.{cases_Bool, none-some, same_Some, same_waiter, Event, Manner}
+use Rattle.lk_core.proofs.Names.{LockName, Mode, Cna, Native, Pv, Virt, Waiter, HasTop, Machine}
+use Rattle.lk_core.proofs.Names.{rest_node, top_of, first_place, granted, node_of, program_of}
+use Rattle.lk_core.proofs.Names.{settled, settled_at, skipped, started, waiting, Done, Enters}
+use Rattle.lk_core.proofs.Names.{Freed, Goes, Granted, Lead, Leaves, Missed, TakesWait, Yields}
+use Rattle.lk_core.proofs.Names.{entered, gone, moved, Frame, Pc, U5, Op, Verb, Lock, RUnlock, Read}
+use Rattle.lk_core.proofs.Names.{Try, TryRead, TryWrite, Unlock, WUnlock, Write, ShowsKicks, world}
+use Rattle.lk_core.proofs.Names.{lead_on, led, put_frame, put_held, put_queued, World}
+use Rattle.lk_rows.specs.Machine.{frame_at, queued_at, set_top, set_node}
+use Rattle.lk_law.specs.{Kicked.{Rests, Owes}, Places.{post_of, post_if}, Pv.at_halt}
 use Rattle.lk_core.proofs.Leads.{granted_led}
+use Rattle.lk_core.proofs.LeadsOut.{left, left_same, left_world, left_ready, leave_is, rewritten}
+use Rattle.lk_core.proofs.{LeadsOut.{done_is, missed_is}, Moved.Ready}
+use Rattle.lk_core.proofs.Same.{top_same, has_top_same, same_set_node}
+use Rattle.lk_core.proofs.Seated.{seated, world-set_top, world-pop}
+use Rattle.lk_core.proofs.Worlds.{frame-set_node, halted-set_node, kicked-set_node}
 
 -- the frame has halted its processor, or is about to
 abbrev pub asleep_in : Option Frame → Bool

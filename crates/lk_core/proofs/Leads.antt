@@ -1,54 +1,31 @@
 -- Where a row leads, case by case: the general application on a machine is the change of worlds.
 use Rattle.std.proofs.Common.{◌≡◌, ◌⊎◌, arith, inl, inr, List, ℕ, Option, Some, None, Bool, true}
-use Rattle.std.proofs.Common.{false, ap, ◌+◌, ◌-◌, refl, sym, ◌∙◌, subst}
-use Rattle.std.specs.Prelude.{if◌then◌else◌, ◌||◌}
-use Rattle.std.proofs.lemmas.Option.{none-some}
-use Rattle.lk_names.specs.Names.{same_lock}
-use Rattle.lk_names.specs.History.{LockHistory}
-use Rattle.lk_names.specs.declared.holder.Manner.{Manner}
-use Rattle.lk_names.specs.declared.holder.Manner.TheVariants.{Spins}
-use Rattle.lk_names.specs.declared.names.Mode.{Mode}
-use Rattle.lk_names.specs.declared.names.Mode.TheVariants.{Pv}
-use Rattle.lk_names.specs.declared.names.Waiter.{Waiter}
-use Rattle.lk_names.specs.declared.names.LockName.{LockName}
-use Rattle.lk_word.specs.declared.spin_word.NodeName.{NodeName}
-use Rattle.lk_rows.specs.declared.parts.Frame.{Frame}
-use Rattle.lk_rows.specs.declared.parts.Pc.{Pc}
-use Rattle.lk_rows.specs.Machine.{Machine, frame_at, queued_at, top_of, set_top, set_node}
-use Rattle.lk_rows.specs.Machine.{rest_node, HasNode}
-use Rattle.lk_rows.specs.declared.setup.Setup.{Setup}
-use Rattle.lk_rows.specs.Programs.{way_after, program_at, is_try}
-use Rattle.lk_rows.specs.Moves.{settled, granted, leave, skipped, rw_name, wait_name, program_of}
-use Rattle.lk_rows.specs.Row.{Change, changed_all, Lead, Goes, Enters, Granted, Freed, Missed}
-use Rattle.lk_rows.specs.Row.{Done, TakesWait, Leaves, Yields, gone, entered, moved}
-use Rattle.lk_rows.specs.declared.setup.Op.{Op}
-use Rattle.lk_rows.specs.declared.setup.Verb.{Verb}
-use Rattle.lk_rows.specs.declared.setup.Verb.TheVariants.{Lock, Try, Unlock, Read, TryRead}
-use Rattle.lk_rows.specs.declared.setup.Verb.TheVariants.{RUnlock, Write, TryWrite, WUnlock}
-use Rattle.lk_rows.specs.declared.parts.Pc.TheVariants.{R4, Wr2, U5}
-use Rattle.lk_law.specs.World.{World}
-use Rattle.lk_law.specs.Steps.{put_frame, put_held, put_queued, led, lead_on}
-use Rattle.lk_law.specs.Sound.{world, held_at, held_in, held_of, frees, owes_kick, is_over}
-use Rattle.lk_law.specs.Sound.{BelongsTo, RwBelongs, Footing, Sharing, Owing, takes_wait}
-use Rattle.lk_law.specs.Sound.{after_wait}
-use Rattle.lk_law.specs.Sound.{ShowsAll}
-use Rattle.lk_law.proofs.common.Sames.{same_lock-self}
-use Rattle.lk_law.specs.RwPhase.{RwPhase, is_inner}
-use Rattle.lk_law.specs.RwPhase.RwPhase.{Inside, Away}
-use Rattle.lk_law.specs.SoundWorld.{IsSoundWorld, rw_own_phase, rw_phase_if, rw_phase_of}
-use Rattle.lk_law.specs.Families.{is_rw_row}
-use Rattle.lk_law.proofs.common.HeldAfter.{Stance, held_goes, held_granted, held_yields, held_gives}
-use Rattle.lk_law.proofs.common.Puts.{if-true, same_lock-else}
-use Rattle.lk_law.proofs.common.Cases.{lock_cases}
+use Rattle.std.proofs.Common.{false, ap, ◌+◌, ◌-◌, refl, sym, ◌∙◌, subst, if◌then◌else◌, ◌||◌}
+use Rattle.lk_core.proofs.Names.{none-some, NodeName, LockHistory, same_lock, Manner, Spins}
+use Rattle.lk_core.proofs.Names.{LockName, Mode, Pv, Waiter, HasNode, Machine, rest_node, top_of}
+use Rattle.lk_core.proofs.Names.{granted, leave, program_of, rw_name, settled, skipped, wait_name}
+use Rattle.lk_core.proofs.Names.{is_try, program_at, way_after, Change, Done, Enters, Freed, Goes}
+use Rattle.lk_core.proofs.Names.{Granted, Lead, Leaves, Missed, TakesWait, Yields, changed_all}
+use Rattle.lk_core.proofs.Names.{entered, gone, moved, Frame, Pc, R4, U5, Wr2, Op, Setup, Verb}
+use Rattle.lk_core.proofs.Names.{Lock, RUnlock, Read, Try, TryRead, TryWrite, Unlock, WUnlock}
+use Rattle.lk_core.proofs.Names.{Write, lock_cases, held_goes, if-true, same_lock-else}
+use Rattle.lk_core.proofs.Names.{same_lock-self, is_rw_row, RwPhase, is_inner, Away, BelongsTo}
+use Rattle.lk_core.proofs.Names.{Footing, Owing, RwBelongs, Sharing, ShowsAll, after_wait, frees}
+use Rattle.lk_core.proofs.Names.{held_at, held_in, held_of, is_over, owes_kick, world, IsSoundWorld}
+use Rattle.lk_core.proofs.Names.{rw_own_phase, rw_phase_if, rw_phase_of, lead_on, led, put_frame}
+use Rattle.lk_core.proofs.Names.{put_held, put_queued, World}
+use Rattle.lk_rows.specs.Machine.{frame_at, queued_at, set_top, set_node}
+use Rattle.lk_law.proofs.common.HeldAfter.{Stance, held_granted, held_yields, held_gives}
+use Rattle.lk_law.specs.{RwPhase.RwPhase.Inside, Sound.takes_wait}
 use Rattle.lk_core.proofs.Access.{top_frame-is}
-use Rattle.lk_core.proofs.Worlds.{world-set_node, frame-set_node}
+use Rattle.lk_core.proofs.LeadsOut.{done_is, leave_is, left, left_ready, left_same, left_world}
+use Rattle.lk_core.proofs.LeadsOut.{missed_is, rewritten}
+use Rattle.lk_core.proofs.Moved.{SamePlace, SameBut, Ready, ready_nodes, ready_same}
+use Rattle.lk_core.proofs.Moved.{same_changed_all, goes_shows, done_shows, missed_shows}
 use Rattle.lk_core.proofs.Same.{top_same, same_set_node}
 use Rattle.lk_core.proofs.Walks.{LeadFits, LeadIn, ChangesIn, NodesIn, nodes_changes, HoldsNow}
 use Rattle.lk_core.proofs.Walks.{IsOuter, holds_done, holds_freed, holds_kicked}
-use Rattle.lk_core.proofs.Moved.{SamePlace, SameBut, Ready, ready_nodes, ready_same}
-use Rattle.lk_core.proofs.Moved.{same_changed_all, goes_shows, done_shows, missed_shows}
-use Rattle.lk_core.proofs.LeadsOut.{done_is, leave_is, left, left_ready, left_same, left_world}
-use Rattle.lk_core.proofs.LeadsOut.{missed_is, rewritten}
+use Rattle.lk_core.proofs.Worlds.{world-set_node, frame-set_node}
 
 -- the frame frees a wait lock
 pub record IsFreeing (f : Frame) : Type 0 where

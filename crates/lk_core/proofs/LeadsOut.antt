@@ -1,30 +1,15 @@
 -- The leads that end an operation: it is done, it has missed, or its frame has left the slow path.
 use Rattle.std.proofs.Common.{◌≡◌, ℕ, Option, Some, None, Bool, true, false, ap, ◌<◌, ◌+◌, ◌-◌}
-use Rattle.std.proofs.Common.{refl, sym, ◌∙◌, subst, length}
-use Rattle.std.specs.Prelude.{if◌then◌else◌}
-use Rattle.std.proofs.lemmas.Option.{same_Some}
-use Rattle.lk_names.specs.Names.{same_waiter}
-use Rattle.lk_names.specs.declared.names.Mode.{Mode}
-use Rattle.lk_names.specs.declared.names.Waiter.{Waiter}
-use Rattle.lk_names.specs.declared.names.LockName.{LockName}
-use Rattle.lk_rows.specs.declared.parts.Frame.{Frame}
-use Rattle.lk_rows.specs.declared.parts.Pc.{Pc}
-use Rattle.lk_rows.specs.Machine.{Machine, frame_at, queued_at, top_of, set_top, set_queued}
-use Rattle.lk_rows.specs.Machine.{HasTop}
-use Rattle.lk_rows.specs.Moves.{settled, done, missed, leave, skipped}
-use Rattle.lk_rows.specs.declared.setup.Verb.{Verb}
-use Rattle.lk_law.specs.World.{World}
-use Rattle.lk_law.specs.Steps.{put_frame, put_queued}
-use Rattle.lk_law.specs.Sound.{world, held_at, RwBelongs, Footing, Spinning, Sharing, Waiting}
-use Rattle.lk_law.specs.Sound.{Freeing, Owing, Fits}
-use Rattle.lk_law.proofs.common.Sames.{same_waiter-self}
-use Rattle.lk_core.proofs.Access.{top_frame-is}
-use Rattle.lk_core.proofs.Seated.{alike, seated, world-set_top}
-use Rattle.lk_core.proofs.Worlds.{world-set_queued}
+use Rattle.std.proofs.Common.{refl, sym, ◌∙◌, subst, length, if◌then◌else◌}
+use Rattle.lk_core.proofs.Names.{same_Some, same_waiter, LockName, Mode, Waiter, HasTop, Machine}
+use Rattle.lk_core.proofs.Names.{top_of, leave, settled, skipped, Frame, Pc, Verb, same_waiter-self}
+use Rattle.lk_core.proofs.Names.{Fits, Footing, Freeing, Owing, RwBelongs, Sharing, Spinning}
+use Rattle.lk_core.proofs.Names.{Waiting, held_at, world, put_frame, put_queued, World}
+use Rattle.lk_rows.specs.{Machine.{frame_at, queued_at, set_top, set_queued}, Moves.{done, missed}}
+use Rattle.lk_core.proofs.{Access.top_frame-is, Moved.{Ready, works_kept, holding_same}}
 use Rattle.lk_core.proofs.Same.{KeepsFrames, same_then, top_same, same_set_top, same_set_queued}
-use Rattle.lk_core.proofs.Same.{whole_same, fits_kept}
-use Rattle.lk_core.proofs.Settle.{fits_all}
-use Rattle.lk_core.proofs.Moved.{Ready, works_kept, holding_same}
+use Rattle.lk_core.proofs.{Same.{whole_same, fits_kept}, Seated.{alike, seated, world-set_top}}
+use Rattle.lk_core.proofs.{Settle.fits_all, Worlds.world-set_queued}
 
 -- a stage depends on the lock alone
 pub same_stage : (mode : Mode) (v : Verb) (f g : Frame) (c : Pc) → g.lock ≡ f.lock

@@ -1,3 +1,4 @@
+pub mod Names
 mod Lists
 pub mod Access
 mod Entries
@@ -24,7 +25,6 @@ pub mod ActKept
 mod FrameComes
 mod Parts
 pub mod Setups
-mod LawfulKept
 pub mod Rest
 mod RestPhases
 pub mod Runs

@@ -2,12 +2,11 @@
 -- place that passes a test.
 use Rattle.std.proofs.Common.{◌≡◌, ◌≢◌, ℕ, zero, suc, Option, Some, None, Bool, true, List, [], ◌∷◌}
 use Rattle.std.proofs.Common.{◌++◌, inl, inr, arith, ap, ◌<◌, ◌≤◌, refl, sym, ◌∙◌, length, set}
-use Rattle.std.proofs.Common.{take, get_or}
-use Rattle.std.specs.Prelude.{slice_get, unwrap_or, position, nat_lt}
-use Rattle.std.specs.List.{position_or_len}
-use Rattle.std.proofs.lemmas.Option.{slice_get_within, slice_get-get_or, none-some, same_Some}
-use Rattle.std.proofs.lemmas.List.Quantifiers.{position-Some}
-use Rattle.std.proofs.lemmas.Bool.{cases_Bool, cond-true, lt-ltb}
+use Rattle.std.proofs.Common.{take, get_or, slice_get, position, nat_lt}
+use Rattle.std.proofs.{lemmas.Bool.{cond-true, lt-ltb}, lemmas.List.Quantifiers.position-Some}
+use Rattle.std.specs.{List.position_or_len, Prelude.unwrap_or}
+use Rattle.lk_core.proofs.Names.{cases_Bool, none-some, same_Some, slice_get-get_or}
+use Rattle.lk_core.proofs.Names.{slice_get_within}
 
 pub get-set_same : {A : Type 0} (xs : List A) (i : ℕ) (x : A) → i < length xs
     → slice_get (set xs i x) i ≡ Some x

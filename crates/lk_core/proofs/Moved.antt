@@ -3,35 +3,19 @@
 -- with.
 use Rattle.std.proofs.Common.{◌≡◌, ℕ, Option, Some, None, true, List, [], ◌∷◌, inl, inr, arith, ap}
 use Rattle.std.proofs.Common.{◌<◌, ◌≤◌, ◌+◌, refl, sym, ◌∙◌, subst, slice_get, length}
-use Rattle.std.specs.Prelude.{if◌then◌else◌, ◌&&◌}
-use Rattle.std.proofs.lemmas.Option.{same_Some, none-some, slice_get_within}
-use Rattle.lk_names.specs.Names.{same_waiter, same_lock}
-use Rattle.lk_names.specs.History.{LockHistory}
-use Rattle.lk_names.specs.declared.holder.Manner.{Manner}
-use Rattle.lk_names.specs.declared.names.Waiter.{Waiter}
-use Rattle.lk_names.specs.declared.names.LockName.{LockName}
-use Rattle.lk_rows.specs.declared.parts.Frame.{Frame}
-use Rattle.lk_rows.specs.declared.parts.Pc.{Pc}
-use Rattle.lk_rows.specs.Machine.{Machine, frame_at, handlers_at, top_of, set_top, HasTop}
-use Rattle.lk_rows.specs.Machine.{HasNode}
-use Rattle.lk_rows.specs.declared.setup.Setup.{Setup}
-use Rattle.lk_rows.specs.Programs.{is_try, program_at}
-use Rattle.lk_rows.specs.Moves.{program_of, settled, skipped}
-use Rattle.lk_rows.specs.Row.{Change, Prev, Second, Y, Left, A, B, K, T, Reason, Tailed}
-use Rattle.lk_rows.specs.Row.{HashedIs, TargetIs, with_change, changed_all}
-use Rattle.lk_law.specs.World.{World}
-use Rattle.lk_law.specs.Steps.{put_frame, put_held}
-use Rattle.lk_law.specs.Sound.{world, held_in, held_at, held_of, Works, Fits, IsWhole, ShowsAll}
-use Rattle.lk_law.specs.Sound.{held_idle, Footing, after_wait}
-use Rattle.lk_law.specs.SoundWorld.{IsSoundWorld}
-use Rattle.lk_rows.specs.Moves.{rw_name}
-use Rattle.lk_law.proofs.common.Cases.{waiter_cases}
-use Rattle.lk_law.proofs.common.Sames.{same_waiter-self}
-use Rattle.lk_law.proofs.common.Puts.{same_waiter-else}
-use Rattle.lk_core.proofs.Seated.{alike, world-set_top}
+use Rattle.std.proofs.Common.{if◌then◌else◌, ◌&&◌}
+use Rattle.lk_core.proofs.Names.{none-some, same_Some, slice_get_within, LockHistory, same_lock}
+use Rattle.lk_core.proofs.Names.{same_waiter, Manner, LockName, Waiter, HasNode, HasTop, Machine}
+use Rattle.lk_core.proofs.Names.{top_of, program_of, rw_name, settled, skipped, is_try, program_at}
+use Rattle.lk_core.proofs.Names.{Change, Prev, TargetIs, changed_all, Frame, Pc, Setup}
+use Rattle.lk_core.proofs.Names.{waiter_cases, same_waiter-else, same_waiter-self, Fits, Footing}
+use Rattle.lk_core.proofs.Names.{IsWhole, ShowsAll, Works, after_wait, held_at, held_idle, held_in}
+use Rattle.lk_core.proofs.Names.{held_of, world, IsSoundWorld, put_frame, put_held, World}
+use Rattle.lk_rows.specs.Machine.{frame_at, handlers_at, set_top}
+use Rattle.lk_rows.specs.Row.{Second, Y, Left, A, B, K, T, Reason, Tailed, HashedIs, with_change}
 use Rattle.lk_core.proofs.Same.{KeepsFrames, top_same, same_set_top, whole_same, fits_kept}
+use Rattle.lk_core.proofs.{Seated.{alike, world-set_top}, Settle.{fits_all, settled_shows}}
 use Rattle.lk_core.proofs.Walks.{HoldsNow, IsOuter, NodesIn, holds_missed, skip_within}
-use Rattle.lk_core.proofs.Settle.{fits_all, settled_shows}
 
 -- the operation of a frame is the same
 abbrev pub works_kept : (s t : Setup) (p : ℕ) (f : Frame) (c : Pc) → t ≡ s

@@ -1,30 +1,18 @@
 -- The nodes that a row gives to registers of its frame: the one that G4 meets as the tail, and the
 -- one that U3 meets in the hash. All other rows give none.
 use Rattle.std.proofs.Common.{◌≡◌, ℕ, Option, Some, None, Bool, true, false, [], ◌∷◌, inl, inr, ◌-◌}
-use Rattle.std.proofs.Common.{refl}
-use Rattle.std.specs.Prelude.{if◌then◌else◌, ◌==◌, ◌&&◌, is_some}
-use Rattle.std.proofs.lemmas.Bool.{cases_Bool}
-use Rattle.lk_names.specs.declared.names.Mode.{Mode}
-use Rattle.lk_names.specs.declared.names.Mode.TheVariants.{Pv}
-use Rattle.lk_word.specs.declared.spin_word.NodeName.{NodeName}
-use Rattle.lk_word.specs.declared.spin_word.Fields.{Fields}
-use Rattle.lk_rows.specs.declared.parts.Flag.{Flag}
-use Rattle.lk_rows.specs.declared.parts.State.{State}
-use Rattle.lk_rows.specs.declared.parts.Flag.TheVariants as flag
-use Rattle.lk_rows.specs.declared.parts.Frame.{Frame}
-use Rattle.lk_rows.specs.declared.parts.Pc.{Pc}
-use Rattle.lk_rows.specs.declared.parts.Pc.TheVariants.{F1, T1, T2, V2, P4, G3, G4, G5, G6, G8}
-use Rattle.lk_rows.specs.declared.parts.Pc.TheVariants.{G10, N2, C1, C2, C3, C6, C7, C8, C10, H2}
-use Rattle.lk_rows.specs.declared.parts.Pc.TheVariants.{W2, W4, W6, W7, E1, E4, E7, E10, E13}
-use Rattle.lk_rows.specs.declared.parts.Pc.TheVariants.{E14, K1, U2, U3, U5}
-use Rattle.lk_rows.specs.Row.{Effect, TargetIs}
-use Rattle.lk_rows.specs.rows.Spin.{spin_row, is_free, is_unlocked}
-use Rattle.lk_rows.specs.rows.Queue.{queue_row, flag_row, next_row, is_sole, after_arrival}
-use Rattle.lk_rows.specs.rows.Cna.{Sight, may_stay, after_none, is_last, is_held, search_row}
-use Rattle.lk_rows.specs.rows.Cna.{second_row, runs_row, handover_row, promotion_row}
-use Rattle.lk_rows.specs.rows.Pv.{is_set, is_running, is_halted, pv_row, pv_flag_row}
-use Rattle.lk_rows.specs.rows.Pv.{pv_next_row, state_row, hash_row, halt_row, kick_row}
+use Rattle.std.proofs.Common.{refl, if◌then◌else◌, ◌==◌, ◌&&◌, is_some}
+use Rattle.lk_core.proofs.Names.{cases_Bool, Fields, NodeName, Mode, Pv, Effect, TargetIs, Flag}
+use Rattle.lk_core.proofs.Names.{Frame, Pc, C1, C2, C3, C6, C7, C8, C10, E1, E4, E7, E10, E13, E14}
+use Rattle.lk_core.proofs.Names.{F1, G3, G4, G5, G6, G8, G10, H2, K1, N2, P4, T1, T2, U2, U3, U5}
+use Rattle.lk_core.proofs.Names.{V2, W2, W4, W6, W7, State, Sight, after_none, handover_row}
+use Rattle.lk_core.proofs.Names.{is_held, is_last, may_stay, promotion_row, runs_row, search_row}
+use Rattle.lk_core.proofs.Names.{second_row, halt_row, hash_row, is_halted, is_running, is_set}
+use Rattle.lk_core.proofs.Names.{kick_row, pv_flag_row, pv_next_row, pv_row, state_row, flag_row}
+use Rattle.lk_core.proofs.Names.{is_sole, next_row, queue_row, is_free, is_unlocked, spin_row}
+use Rattle.lk_rows.specs.rows.Queue.{after_arrival}
 use Rattle.lk_core.proofs.Walks.{LeadIn, ChangesIn}
+use Rattle.lk_rows.specs.declared.parts.Flag.TheVariants as flag
 
 module _ (R : NodeName → Type 0) where
   pub spin_in : (mode : Mode) (c : Pc) (f : Frame) (x : Fields)

@@ -1,32 +1,22 @@
 -- What no write to a processor or a lock changes, no act changes but by its counts: the setup, and
 -- the counts themselves.
 use Rattle.std.proofs.Common.{◌≡◌, ℕ, Option, Some, None, Bool, true, false, [], ◌∷◌, ◌++◌, ◌+◌}
-use Rattle.std.proofs.Common.{◌-◌, refl, ◌∙◌, set, take}
-use Rattle.std.specs.Prelude.{if◌then◌else◌, ◌==◌, ◌||◌, not, slice_get}
-use Rattle.lk_names.specs.declared.names.LockName.{LockName}
+use Rattle.std.proofs.Common.{◌-◌, refl, ◌∙◌, set, take, if◌then◌else◌, ◌==◌, ◌||◌, not, slice_get}
+use Rattle.lk_core.proofs.Names.{RwFields, Fields, NodeName, LockName, after_halt, awake}
+use Rattle.lk_core.proofs.Names.{handler_frame, idle, interrupted, is_shut, kicked_awake, next}
+use Rattle.lk_core.proofs.Names.{nudged, step_halted, woken, CpuState, LockState, Machine}
+use Rattle.lk_core.proofs.Names.{rest_node, top_frame, granted, leave, program_of, settled}
+use Rattle.lk_core.proofs.Names.{settled_at, skipped, started, waiting, Done, Enters, Freed, Goes}
+use Rattle.lk_core.proofs.Names.{Granted, Lead, Leaves, Missed, TakesWait, Yields, entered, gone}
+use Rattle.lk_core.proofs.Names.{moved, stored_entry, stored_flag, stored_halted, stored_kicked}
+use Rattle.lk_core.proofs.Names.{stored_next, stored_queued, stored_runs, stored_rw, stored_second}
+use Rattle.lk_core.proofs.Names.{stored_state, stored_word, Flag, Frame, Node, State, Op}
+use Rattle.lk_rows.specs.Machine.{cpu_at, lock_at, node_at, queued_at, depth_at, preempted_at}
+use Rattle.lk_rows.specs.Machine.{halted_at, kicked_at, set_cpu, set_lock, set_word, set_node}
+use Rattle.lk_rows.specs.Machine.{set_top, set_queued, set_preempted, set_halted, set_kicked}
+use Rattle.lk_rows.specs.{Machine.{set_entry, pop, push, set_rw}, Moves.{done, missed}}
+use Rattle.lk_rows.specs.Row.{with_rest}
 use Rattle.lk_names.specs.declared.events.Act.TheVariants as act
-use Rattle.lk_word.specs.declared.spin_word.NodeName.{NodeName}
-use Rattle.lk_word.specs.declared.spin_word.Fields.{Fields}
-use Rattle.lk_rows.specs.declared.setup.Op.{Op}
-use Rattle.lk_rows.specs.declared.parts.Flag.{Flag}
-use Rattle.lk_rows.specs.declared.parts.State.{State}
-use Rattle.lk_rows.specs.declared.parts.Frame.{Frame}
-use Rattle.lk_rows.specs.declared.parts.Node.{Node}
-use Rattle.lk_rows.specs.Machine.{Machine, CpuState, LockState, cpu_at, lock_at, node_at}
-use Rattle.lk_rows.specs.Machine.{queued_at, depth_at, preempted_at, halted_at, kicked_at}
-use Rattle.lk_rows.specs.Machine.{top_frame, set_cpu, set_lock, set_word, set_node, set_top}
-use Rattle.lk_rows.specs.Machine.{set_queued, set_preempted, set_halted, set_kicked, set_entry}
-use Rattle.lk_rows.specs.Machine.{pop, push, rest_node, set_rw}
-use Rattle.lk_rows.specs.Moves.{settled, settled_at, program_of, started, done, granted, missed}
-use Rattle.lk_rows.specs.Moves.{skipped, leave, waiting}
-use Rattle.lk_rows.specs.Row.{Lead, Goes, Enters, Granted, Freed, Missed, Leaves, Yields, gone}
-use Rattle.lk_rows.specs.Row.{entered, moved, with_rest, Done, TakesWait}
-use Rattle.lk_rows.specs.TopRow.{stored_word, stored_rw, stored_flag, stored_next, stored_second}
-use Rattle.lk_rows.specs.TopRow.{stored_runs, stored_state, stored_entry, stored_halted}
-use Rattle.lk_rows.specs.TopRow.{stored_kicked, stored_queued}
-use Rattle.lk_rows.specs.Acts.{idle, woken, kicked_awake, step_halted, is_shut, handler_frame}
-use Rattle.lk_rows.specs.Acts.{awake, interrupted, nudged, next, after_halt}
-use Rattle.lk_word.specs.declared.rw_word.RwFields.{RwFields}
 
 -- one of two machines
 either : {A : Type 0} (F : Machine → A) (t : Bool) (a b : Machine) (x : A) → F a ≡ x → F b ≡ x

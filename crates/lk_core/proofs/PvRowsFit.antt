@@ -1,35 +1,18 @@
 -- Where a row of the paravirtual lock leads, its frame fits its program still.
 use Rattle.std.proofs.Common.{◌≡◌, ◌⊎◌, ℕ, ap, arith, [], ◌-◌, Option, Some, None, Bool, true}
-use Rattle.std.proofs.Common.{false, inl, inr, refl, sym, subst}
-use Rattle.std.specs.Prelude.{if◌then◌else◌, ◌&&◌, ◌==◌, not, is_some}
-use Rattle.std.proofs.lemmas.Bool.{cases_Bool}
-use Rattle.lk_names.specs.declared.names.Mode.{Mode}
-use Rattle.lk_names.specs.declared.names.Mode.TheVariants.{Virt, Native, Cna, Pv}
-use Rattle.lk_word.specs.declared.spin_word.NodeName.{NodeName}
-use Rattle.lk_word.specs.declared.spin_word.Fields.{Fields}
-use Rattle.lk_rows.specs.declared.setup.Verb.{Verb}
-use Rattle.lk_rows.specs.declared.setup.Verb.TheVariants.{Lock, Try, Unlock}
-use Rattle.lk_rows.specs.declared.parts.Flag.{Flag}
-use Rattle.lk_rows.specs.declared.parts.Frame.{Frame}
-use Rattle.lk_rows.specs.declared.parts.Pc.{Pc}
-use Rattle.lk_rows.specs.declared.parts.Pc.TheVariants.{H1, H2, W1, W2, W3, W4, W5, W6, W7, E1}
-use Rattle.lk_rows.specs.declared.parts.Pc.TheVariants.{E2, E3, E4, E5, E6, E7, E8, E9, E10, E11}
-use Rattle.lk_rows.specs.declared.parts.Pc.TheVariants.{E12, E13, E14, E15, K1, K2, K3, U2, U3}
-use Rattle.lk_rows.specs.declared.parts.Pc.TheVariants.{U4}
-use Rattle.lk_rows.specs.Row.{Lead, Goes}
-use Rattle.lk_rows.specs.rows.Pv.{after_given_up, is_slow_byte, is_set, is_running, is_halted}
-use Rattle.lk_rows.specs.rows.Pv.{pv_after_next, pv_row, pv_flag_row, pv_next_row, state_row}
-use Rattle.lk_rows.specs.rows.Pv.{hash_row, halt_row}
-use Rattle.lk_rows.specs.declared.parts.State.{State}
-use Rattle.lk_rows.specs.rows.Cna.{is_held, is_last}
-use Rattle.lk_rows.specs.rows.Spin.{is_unlocked}
-use Rattle.lk_law.specs.Families.{may_halt}
-use Rattle.lk_law.specs.Sound.{BelongsTo, is_virt_row, is_choosing_row}
-use Rattle.lk_law.specs.Families.{is_queued_row}
-use Rattle.lk_law.specs.Families.{is_halting_row}
-use Rattle.lk_core.proofs.Walks.{LeadFits}
-use Rattle.lk_core.proofs.RowsFit.{either, releasing}
-use Rattle.lk_core.proofs.ChoiceRowsFit.{lead_if}
+use Rattle.std.proofs.Common.{false, inl, inr, refl, sym, subst, if◌then◌else◌, ◌&&◌, ◌==◌, not}
+use Rattle.std.proofs.Common.{is_some}
+use Rattle.lk_core.proofs.Names.{cases_Bool, Fields, NodeName, Mode, Cna, Native, Pv, Virt, Goes}
+use Rattle.lk_core.proofs.Names.{Lead, Flag, Frame, Pc, E1, E2, E4, E6, E7, E10, E13, E14, H2, K1}
+use Rattle.lk_core.proofs.Names.{K3, U2, U3, U4, W2, W4, W6, W7, State, Verb, Lock, Try, Unlock}
+use Rattle.lk_core.proofs.Names.{is_held, is_last, halt_row, hash_row, is_halted, is_running}
+use Rattle.lk_core.proofs.Names.{is_set, pv_flag_row, pv_next_row, pv_row, state_row, is_unlocked}
+use Rattle.lk_core.proofs.Names.{is_halting_row, is_queued_row, may_halt, BelongsTo}
+use Rattle.lk_core.proofs.Names.{is_choosing_row, is_virt_row}
+use Rattle.lk_rows.specs.declared.parts.Pc.TheVariants.{H1, W1, W3, W5, E3, E5, E8, E9, E11, E12}
+use Rattle.lk_rows.specs.declared.parts.Pc.TheVariants.{E15, K2}
+use Rattle.lk_rows.specs.rows.Pv.{after_given_up, is_slow_byte, pv_after_next}
+use Rattle.lk_core.proofs.{ChoiceRowsFit.lead_if, RowsFit.{either, releasing}, Walks.LeadFits}
 
 -- the rows of the paravirtual lock are rows of `lock` and of `unlock` in mode `pv`
 

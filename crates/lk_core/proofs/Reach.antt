@@ -1,57 +1,34 @@
 -- The nodes that a row writes are a processor's own, and the lead goes to a waiter that is there.
 use Rattle.std.proofs.Common.{◌≡◌, ◌<◌, ℕ, Option, Some, None, Bool, true, false, length, inl, inr}
-use Rattle.std.proofs.Common.{arith, ap, refl, sym, ◌∙◌, subst, slice_get}
-use Rattle.std.specs.Prelude.{is_some, if◌then◌else◌, ◌&&◌, ◌==◌, ◌-◌}
-use Rattle.std.proofs.lemmas.Bool.{cases_Bool}
-use Rattle.lk_names.specs.Names.{same_lock}
-use Rattle.lk_names.specs.History.{LockHistory}
-use Rattle.lk_names.specs.declared.names.Mode.{Mode}
-use Rattle.lk_names.specs.declared.names.Waiter.{Waiter}
-use Rattle.lk_names.specs.declared.names.LockName.{LockName}
-use Rattle.lk_word.specs.declared.spin_word.NodeName.{NodeName}
-use Rattle.lk_word.specs.declared.spin_word.Fields.{Fields}
-use Rattle.lk_word.specs.declared.rw_word.RwFields.{RwFields}
-use Rattle.lk_rows.specs.declared.parts.Flag.{Flag}
-use Rattle.lk_rows.specs.declared.parts.Frame.{Frame}
-use Rattle.lk_rows.specs.declared.parts.Pc.{Pc}
-use Rattle.lk_rows.specs.declared.parts.Pc.TheVariants.{F1, T1, T2, V2, G3, G5, G6, G8, G10, G11}
-use Rattle.lk_rows.specs.declared.parts.Pc.TheVariants.{N2, C1, C2, C3, C4, C5, C6, C7, C8, C9}
-use Rattle.lk_rows.specs.declared.parts.Pc.TheVariants.{C10, H2, W1, W2, W3, W4, W5, W6, W7, E1}
-use Rattle.lk_rows.specs.declared.parts.Pc.TheVariants.{E2, E4, E6, E7, E10, E13, E14, E15, K1}
-use Rattle.lk_rows.specs.declared.parts.Pc.TheVariants.{U2, U3, U5, R1, R2, R5, Wr1, Wr3, Wr6}
-use Rattle.lk_rows.specs.declared.parts.Pc.TheVariants.{Y1, Y2, Y4, Y5}
-use Rattle.lk_rows.specs.Machine.{Machine, cpu_at, frame_at, node_at, word_at, entry_at}
-use Rattle.lk_rows.specs.Machine.{halted_at, kicked_at, HasNode, rw_at}
+use Rattle.std.proofs.Common.{arith, ap, refl, sym, ◌∙◌, subst, slice_get, is_some, if◌then◌else◌}
+use Rattle.std.proofs.Common.{◌&&◌, ◌==◌, ◌-◌}
+use Rattle.lk_core.proofs.Names.{cases_Bool, RwFields, Fields, NodeName, LockHistory, same_lock}
+use Rattle.lk_core.proofs.Names.{LockName, Mode, Waiter, HasNode, Machine, is_node, node_of, Effect}
+use Rattle.lk_core.proofs.Names.{ChoiceFlag, ChoiceNext, ChoiceWord, FlagOf, Halted, HashEntry}
+use Rattle.lk_core.proofs.Names.{KickOf, NextOf, PvFlag, PvNext, PvWord, QueueWord, Queued, RunsOf}
+use Rattle.lk_core.proofs.Names.{RwWord, SecondTailOf, SpinWord, StateOf, Target, target, Flag}
+use Rattle.lk_core.proofs.Names.{Frame, Pc, C1, C2, C3, C6, C7, C8, C10, E1, E2, E4, E6, E7, E10}
+use Rattle.lk_core.proofs.Names.{E13, E14, F1, G3, G5, G6, G8, G10, G11, H2, K1, N2, R1, R2, R5, T1}
+use Rattle.lk_core.proofs.Names.{T2, U2, U3, U5, V2, W2, W4, W6, W7, Wr1, Wr3, Wr6, Y1, Y2, Y4, Y5}
+use Rattle.lk_core.proofs.Names.{State, Sight, after_none, handover_row, is_held, is_last, may_stay}
+use Rattle.lk_core.proofs.Names.{promotion_row, runs_row, search_row, second_row, halt_row}
+use Rattle.lk_core.proofs.Names.{hash_row, is_halted, is_running, is_set, kick_row, pv_flag_row}
+use Rattle.lk_core.proofs.Names.{pv_next_row, pv_row, state_row, flag_row, is_sole, next_row}
+use Rattle.lk_core.proofs.Names.{queue_row, is_cleared, is_empty, is_open, rw_row, is_free}
+use Rattle.lk_core.proofs.Names.{is_unlocked, spin_row, named_front_is_used, same_lock-self}
+use Rattle.lk_core.proofs.Names.{chooses, may_halt, IsOwnNode, Phase, has_node, own_in, phase_of}
+use Rattle.lk_core.proofs.Names.{phase_on, Uses, ShowsAll, world, spin_part}
+use Rattle.lk_rows.specs.Machine.{cpu_at, frame_at, node_at, word_at, entry_at, halted_at}
+use Rattle.lk_rows.specs.{Machine.{kicked_at, rw_at}, Moves.waiter_of}
+use Rattle.lk_rows.specs.Row.{Tell, Nothing, Says, Passes}
+use Rattle.lk_rows.specs.declared.parts.Pc.TheVariants.{C4, C5, C9, W1, W3, W5, E15}
 use Rattle.lk_machine.specs.Ready.{HasTarget}
-use Rattle.lk_rows.specs.Moves.{is_node, node_of, waiter_of}
-use Rattle.lk_rows.specs.Row.{Effect, Tell, Nothing, Says, Passes}
-use Rattle.lk_rows.specs.rows.Spin.{spin_row, is_free, is_unlocked}
-use Rattle.lk_rows.specs.rows.Queue.{queue_row, flag_row, next_row, is_sole}
-use Rattle.lk_rows.specs.TopRow.{Target, SpinWord, QueueWord, Queued, FlagOf, NextOf, ChoiceWord}
-use Rattle.lk_rows.specs.TopRow.{ChoiceFlag, ChoiceNext, SecondTailOf, RunsOf, PvWord, PvFlag}
-use Rattle.lk_rows.specs.TopRow.{PvNext, StateOf, HashEntry, Halted, KickOf, RwWord, target}
-use Rattle.lk_rows.specs.rows.Cna.{Sight, may_stay, after_none, is_last, is_held, search_row}
-use Rattle.lk_rows.specs.rows.Cna.{second_row, runs_row, handover_row, promotion_row}
-use Rattle.lk_rows.specs.rows.Pv.{is_set, is_running, is_halted, pv_row, pv_flag_row}
-use Rattle.lk_rows.specs.rows.Pv.{pv_next_row, state_row, hash_row, halt_row, kick_row}
-use Rattle.lk_rows.specs.declared.parts.State.{State}
-use Rattle.lk_rows.specs.rows.Rw.{rw_row, is_empty, is_open, is_cleared}
-use Rattle.lk_law.specs.Known.{choice_node, IsOwnNode}
-use Rattle.lk_law.proofs.cna.Knows.{choice_is_used}
-use Rattle.lk_law.proofs.common.Families.{lists_met}
-use Rattle.lk_law.proofs.common.Knows.{tail_is_used, halting_next_is_used, named_front_is_used}
-use Rattle.lk_law.proofs.common.Knows.{entry_is_used}
-use Rattle.lk_law.specs.Phase.{Phase, has_node}
-use Rattle.lk_law.specs.Places.{phase_on, phase_if, phase_of, own_in}
-use Rattle.lk_law.specs.Steps.{row_in, row_in_at, sight_in}
-use Rattle.lk_law.specs.Families.{chooses, may_halt}
-use Rattle.lk_law.specs.Premises.{Uses, GoesTo}
-use Rattle.lk_law.specs.Sound.{world, ShowsAll}
-use Rattle.lk_law.specs.SoundWorld.{spin_part}
-use Rattle.lk_law.proofs.common.Sames.{same_lock-self}
+use Rattle.lk_law.proofs.{cna.Knows.choice_is_used, common.Families.lists_met}
+use Rattle.lk_law.proofs.common.Knows.{tail_is_used, halting_next_is_used, entry_is_used}
 use Rattle.lk_law.proofs.common.Users.{some_is, is_node-own}
-use Rattle.lk_core.proofs.Lists.{first_found}
-use Rattle.lk_core.proofs.Access.{frame_within}
+use Rattle.lk_law.specs.{Known.choice_node, Places.phase_if, Premises.GoesTo}
+use Rattle.lk_law.specs.Steps.{row_in, row_in_at, sight_in}
+use Rattle.lk_core.proofs.{Access.frame_within, Lists.first_found}
 use Rattle.lk_rows.specs.declared.parts.Flag.TheVariants as flag
 
 -- the waiter of a phase that has a node has a frame

@@ -1,43 +1,26 @@
 -- On a sound machine the top frame can make its row.
 use Rattle.std.proofs.Common.{◌≡◌, ◌⊎◌, ℕ, zero, suc, inl, inr, Option, Some, None, Bool, true}
 use Rattle.std.proofs.Common.{false, arith, ap, ◌<◌, ◌≤◌, ◌+◌, ◌-◌, ◌*◌, ◌^◌, refl, sym, ◌∙◌}
-use Rattle.std.proofs.Common.{length}
-use Rattle.std.specs.Prelude.{if◌then◌else◌, is_some, slice_get}
-use Rattle.std.proofs.lemmas.Bool.{cases_eq}
-use Rattle.std.proofs.lemmas.Option.{slice_get_within}
-use Rattle.lk_names.specs.History.{LockHistory}
-use Rattle.lk_names.specs.declared.names.Waiter.{Waiter}
-use Rattle.lk_names.specs.declared.names.LockName.{LockName}
-use Rattle.lk_word.specs.declared.spin_word.NodeName.{NodeName}
-use Rattle.lk_rows.specs.declared.parts.Frame.{Frame}
-use Rattle.lk_rows.specs.declared.parts.Pc.{Pc}
-use Rattle.lk_rows.specs.Machine.{Machine, cpu_at, depth_at, frame_at, word_at, entry_at}
-use Rattle.lk_rows.specs.Machine.{queued_at, top_of, top_frame}
-use Rattle.lk_rows.specs.Programs.{HasPrograms, handlers_of, kind_of}
-use Rattle.lk_rows.specs.Moves.{CanMove, node_of}
-use Rattle.lk_machine.specs.Ready.{CountsWithin, IsReady}
+use Rattle.std.proofs.Common.{length, if◌then◌else◌, is_some, slice_get}
+use Rattle.lk_core.proofs.Names.{cases_eq, slice_get_within, NodeName, LockHistory, LockName}
+use Rattle.lk_core.proofs.Names.{Waiter, Machine, top_frame, top_of, node_of, HasPrograms}
+use Rattle.lk_core.proofs.Names.{handlers_of, kind_of, Frame, Pc, E6, K3, U3, U5, CountsWithin}
+use Rattle.lk_core.proofs.Names.{named_front_is_used, halts, chooses, is_rw_row, may_halt, has_node}
+use Rattle.lk_core.proofs.Names.{own_in, Fits, ShowsAll, held_at, world, spin_part}
 use Rattle.lk_rows.specs.Family.{family_of}
-use Rattle.lk_rows.specs.declared.parts.Pc.TheVariants.{E6, E9, K3, U3, U5}
-use Rattle.lk_law.specs.Snapshot.{before}
-use Rattle.lk_law.specs.Places.{slow_in, own_in, phase_if}
-use Rattle.lk_law.specs.Families.{chooses, may_halt, is_rw_row}
-use Rattle.lk_law.specs.SoundWorld.{spin_part}
-use Rattle.lk_law.specs.Sound.{Fits, ShowsAll, world, held_at}
-use Rattle.lk_law.proofs.cna.Knows.{run_is_short, skipped_is_queued, queue_is_distinct}
-use Rattle.lk_law.proofs.rw.Few.{each_few, readers_are_few}
-use Rattle.lk_law.specs.Phase.{has_node}
-use Rattle.lk_law.proofs.common.Users.{is_node-own}
-use Rattle.lk_law.specs.Agree.{halts}
-use Rattle.lk_law.specs.Known.{KnownHalting}
-use Rattle.lk_law.proofs.common.Knows.{row_knows, named_front_is_used}
+use Rattle.lk_rows.specs.Machine.{cpu_at, depth_at, frame_at, word_at, entry_at, queued_at}
+use Rattle.lk_rows.specs.{Moves.CanMove, declared.parts.Pc.TheVariants.E9}
+use Rattle.lk_machine.specs.Ready.{IsReady}
 use Rattle.lk_cna.specs.Row.{IsCnaReady}
 use Rattle.lk_rw.specs.Row.{IsRwReady}
 use Rattle.lk_pv.specs.Row.{enters_hash, leaves_hash, IsPvReady}
-use Rattle.lk_core.proofs.RowKept.{top_live}
-use Rattle.lk_core.proofs.Access.{frame_within}
+use Rattle.lk_law.proofs.cna.Knows.{run_is_short, skipped_is_queued, queue_is_distinct}
+use Rattle.lk_law.proofs.{common.Knows.row_knows, common.Users.is_node-own}
+use Rattle.lk_law.proofs.rw.Few.{each_few, readers_are_few}
+use Rattle.lk_law.specs.{Known.KnownHalting, Places.{slow_in, phase_if}, Snapshot.before}
+use Rattle.lk_core.proofs.{Access.frame_within, HashRoom.{hash_room, front_acts}}
 use Rattle.lk_core.proofs.Reach.{target_within, own_here, phase_there, kick_within}
-use Rattle.lk_core.proofs.HashRoom.{hash_room, front_acts}
-use Rattle.lk_core.proofs.Stored.{stored_within}
+use Rattle.lk_core.proofs.{RowKept.top_live, Stored.stored_within}
 use Rattle.lk_rows.specs.declared.family.Family.TheVariants as family
 
 before_le : (slow : Waiter → Bool) (p n : ℕ) → before slow p n ≤ n

@@ -2,64 +2,39 @@
 -- shows the empty history.
 use Rattle.std.proofs.Common.{◌≡◌, ◌≢◌, ℕ, zero, suc, Option, Some, None, Bool, true, false, []}
 use Rattle.std.proofs.Common.{◌∷◌, inl, inr, arith, ap, ◌<◌, ◌≤◌, refl, sym, ◌∙◌, subst, slice_get}
-use Rattle.std.proofs.Common.{length, get_or, replicate}
-use Rattle.std.specs.Prelude.{if◌then◌else◌, ◌==◌}
-use Rattle.std.proofs.lemmas.Bool.{cases_Bool, cases_lt}
-use Rattle.std.proofs.lemmas.List.{length-replicate, get_or_past}
-use Rattle.std.proofs.lemmas.Option.{same_Some, none-some, get_or_from_slice_get}
-use Rattle.lk_names.specs.Names.{same_lock}
-use Rattle.lk_names.specs.History.{no_history}
-use Rattle.lk_names.specs.declared.names.Kind.TheVariants.{Spin}
-use Rattle.lk_names.specs.declared.names.Waiter.{Waiter}
-use Rattle.lk_names.specs.declared.names.LockName.{LockName}
-use Rattle.lk_names.specs.declared.holder.Manner.TheVariants.{Spins, Writes}
-use Rattle.lk_word.specs.declared.spin_word.NodeName.{NodeName}
+use Rattle.std.proofs.Common.{length, get_or, replicate, if◌then◌else◌, ◌==◌}
+use Rattle.std.proofs.{lemmas.List.length-replicate, lemmas.Option.get_or_from_slice_get}
+use Rattle.lk_core.proofs.Names.{cases_Bool, cases_lt, get_or_past, none-some, same_Some, RwFields}
+use Rattle.lk_core.proofs.Names.{NodeName, same_lock, Spins, Spin, LockName, Waiter, CpuState}
+use Rattle.lk_core.proofs.Names.{HasTop, LockState, Machine, no_cpu, rest_frame, rest_lock}
+use Rattle.lk_core.proofs.Names.{rest_node, first_place, node_of, program_of, rw_name, wait_name}
+use Rattle.lk_core.proofs.Names.{kind_of, program_at, way_at, way_before, Frame, Pc, G5, G11, Op}
+use Rattle.lk_core.proofs.Names.{Setup, lock_cases, same_lock-else, ShowsKicks, has_node, queues}
+use Rattle.lk_core.proofs.Names.{Idle, own_in, phase_of, phase_on, Fits, Footing, IsWhole, ShowsAll}
+use Rattle.lk_core.proofs.Names.{held_at, held_of, world, IsSoundWorld, RwFits, rw_phase_of}
 use Rattle.lk_word.specs.declared.spin_word.Locked.TheVariants.{Free}
-use Rattle.lk_word.specs.declared.rw_word.RwFields.{RwFields}
-use Rattle.lk_rows.specs.declared.setup.Op.{Op}
-use Rattle.lk_rows.specs.declared.setup.Setup.{Setup}
-use Rattle.lk_rows.specs.declared.parts.Frame.{Frame}
-use Rattle.lk_rows.specs.declared.parts.Pc.{Pc}
-use Rattle.lk_rows.specs.declared.parts.Pc.TheVariants.{G5, G11}
-use Rattle.lk_rows.specs.Machine.{Machine, CpuState, LockState, cpu_at, lock_at, rw_at}
-use Rattle.lk_rows.specs.Machine.{rest_frame, word_at, node_at, frame_at, queued_at, depth_at}
-use Rattle.lk_rows.specs.Machine.{halted_at, kicked_at, entry_at, handlers_at, no_cpu, rest_lock}
-use Rattle.lk_rows.specs.Machine.{rest_node, rest_word, HasTop}
-use Rattle.lk_rows.specs.Programs.{IsLawfulSetup, program_at, way_at, way_before, kind_of}
-use Rattle.lk_rows.specs.Moves.{first_place, program_of, node_of, rw_name, wait_name}
-use Rattle.lk_rows.specs.Run.{first_frame, rest_cpu, rest_cpus, at_rest}
-use Rattle.lk_law.specs.Phase.{has_lock, queues, pends, watches, has_node}
-use Rattle.lk_law.specs.Phase.Phase.{Idle}
-use Rattle.lk_law.specs.Stage.Stage.{Rests}
-use Rattle.lk_law.proofs.common.Worlds.{stage_calm, stage_on-rests}
-use Rattle.lk_law.specs.Pv.{Post, PostsAgree, at_halt}
-use Rattle.lk_law.specs.Pv.Post.{Off}
-use Rattle.lk_law.specs.Kicked.{ShowsKicks}
-use Rattle.lk_law.proofs.common.RestWorld.{empty_world, none_told}
-use Rattle.lk_law.proofs.pv.HaltsShown.{empty_shows}
-use Rattle.lk_law.proofs.common.Choices.{quiet_choice, fit_placeless}
-use Rattle.lk_law.specs.Snapshot.{QueueAgrees, before, spins}
-use Rattle.lk_law.specs.Agree.{LockAgrees, Owed, node_state}
-use Rattle.lk_law.specs.Registers.{RegistersFit, is_quiet_row}
-use Rattle.lk_law.specs.SpinWorld.{IsSoundSpinWorld}
-use Rattle.lk_law.specs.Places.{post_of, post_on, phase_of, phase_on, stage_on, own_in, slow_in}
-use Rattle.lk_law.specs.Places.{snapshot}
-use Rattle.lk_law.specs.Families.{is_slow}
-use Rattle.lk_law.specs.Sound.{world, held_of, held_at, Footing, Fits, IsWhole, ShowsAll}
-use Rattle.lk_law.proofs.common.Cases.{lock_cases}
-use Rattle.lk_law.proofs.common.Puts.{same_lock-else}
-use Rattle.lk_law.specs.RwPhase.{is_counted}
-use Rattle.lk_law.specs.RwAgree.{RwAgrees}
-use Rattle.lk_law.specs.SoundWorld.{IsSoundWorld, RwFits, rw_phase_of, rw_phase_on, rw_phases}
-use Rattle.lk_law.specs.SoundWorld.{rw_helds, rw_waits}
-use Rattle.lk_law.proofs.rw.Begins.{begun_fits}
 use Rattle.lk_names.proofs.ByIndex.{get_past}
+use Rattle.lk_names.specs.{History.no_history, declared.holder.Manner.TheVariants.Writes}
+use Rattle.lk_rows.specs.Machine.{cpu_at, lock_at, rw_at, word_at, node_at, frame_at, queued_at}
+use Rattle.lk_rows.specs.Machine.{depth_at, halted_at, kicked_at, entry_at, handlers_at, rest_word}
+use Rattle.lk_rows.specs.{Programs.IsLawfulSetup, Run.{first_frame, rest_cpu, rest_cpus, at_rest}}
+use Rattle.lk_law.proofs.common.Choices.{quiet_choice, fit_placeless}
+use Rattle.lk_law.proofs.common.RestWorld.{empty_world, none_told}
+use Rattle.lk_law.proofs.{common.Worlds.{stage_calm, stage_on-rests}, pv.HaltsShown.empty_shows}
+use Rattle.lk_law.proofs.rw.Begins.{begun_fits}
+use Rattle.lk_law.specs.{Agree.{LockAgrees, Owed, node_state}, Families.is_slow}
+use Rattle.lk_law.specs.Phase.{has_lock, pends, watches}
+use Rattle.lk_law.specs.Places.{post_of, post_on, stage_on, slow_in, snapshot}
+use Rattle.lk_law.specs.{Pv.{Post, PostsAgree, at_halt}, Pv.Post.Off}
+use Rattle.lk_law.specs.{Registers.{RegistersFit, is_quiet_row}, RwAgree.RwAgrees}
+use Rattle.lk_law.specs.{RwPhase.is_counted, Snapshot.{QueueAgrees, before, spins}}
+use Rattle.lk_law.specs.SoundWorld.{rw_phase_on, rw_phases, rw_helds, rw_waits}
+use Rattle.lk_law.specs.{SpinWorld.IsSoundSpinWorld, Stage.Stage.Rests}
 use Rattle.lk_core.proofs.Kicks.{owed_in, asleep_in, kicks_same}
-use Rattle.lk_core.proofs.Settle.{first_stage, first_outer}
-use Rattle.lk_core.proofs.Walks.{IsOuter, outer_held}
 use Rattle.lk_core.proofs.RestPhases.{untouched, calm, IsCalm, HasNoPart, calm_posts, differ}
 use Rattle.lk_core.proofs.RestPhases.{first_untouched, get_or-same, is_calm, length-rest_cpus}
 use Rattle.lk_core.proofs.RestPhases.{quiet, rest_cpus-at, suits_off}
+use Rattle.lk_core.proofs.{Settle.{first_stage, first_outer}, Walks.{IsOuter, outer_held}}
 
 module _ (setup : Setup) (ok : IsLawfulSetup setup) where
   abbrev m : Machine

@@ -1,28 +1,15 @@
 -- Phases that have touched nothing have no part in any agreement.
-use Rattle.std.proofs.Common.{◌≡◌, ◌≢◌, ℕ, zero, suc, Some, None, Bool, true, false, arith, ap}
-use Rattle.std.proofs.Common.{◌<◌, ◌+◌, refl, ◌∙◌, length, get_or, replicate}
-use Rattle.lk_names.specs.declared.names.Mode.{Mode}
-use Rattle.lk_names.specs.declared.names.Waiter.{Waiter}
-use Rattle.lk_word.specs.declared.spin_word.NodeName.{NodeName}
+use Rattle.std.proofs.Common.{◌≡◌, ◌≢◌, ℕ, zero, suc, Some, None, Bool, true, false, arith, ap, ◌<◌}
+use Rattle.std.proofs.Common.{◌+◌, refl, ◌∙◌, length, get_or, replicate}
+use Rattle.lk_core.proofs.Names.{NodeName, Mode, Waiter, no_cpu, first_place, way_before, Frame}
+use Rattle.lk_core.proofs.Names.{State, Setup, Verb, RUnlock, Unlock, WUnlock, Phase, has_node}
+use Rattle.lk_core.proofs.Names.{queues, Idle, RwPhase, is_inner, Asks, Away}
 use Rattle.lk_word.specs.declared.spin_word.Locked.TheVariants.{Free}
-use Rattle.lk_rows.specs.declared.setup.Verb.{Verb}
-use Rattle.lk_rows.specs.declared.setup.Verb.TheVariants.{Unlock, RUnlock, WUnlock}
-use Rattle.lk_rows.specs.declared.setup.Setup.{Setup}
-use Rattle.lk_rows.specs.declared.parts.Frame.{Frame}
-use Rattle.lk_rows.specs.Machine.{no_cpu}
-use Rattle.lk_rows.specs.Programs.{way_before}
-use Rattle.lk_rows.specs.Moves.{first_place}
 use Rattle.lk_rows.specs.Run.{rest_cpu, rest_cpus}
-use Rattle.lk_rows.specs.declared.parts.State.{State}
-use Rattle.lk_law.specs.Phase.{Phase, has_lock, queues, pends, claims, watches, has_node}
-use Rattle.lk_law.specs.Phase.Phase.{Idle, Seeks}
-use Rattle.lk_law.specs.Pv.{PostsAgree, agrees as suits}
-use Rattle.lk_law.specs.Pv.Post.{Off}
-use Rattle.lk_law.specs.Registers.{is_quiet_row}
-use Rattle.lk_law.specs.Places.{post_if, phase_at}
-use Rattle.lk_law.specs.Families.{is_slow}
-use Rattle.lk_law.specs.RwPhase.{RwPhase, is_counted, is_inner}
-use Rattle.lk_law.specs.RwPhase.RwPhase.{Away, Asks, Announces, Unreads, Unwrites}
+use Rattle.lk_law.specs.{Families.is_slow, Phase.{has_lock, pends, claims, watches}}
+use Rattle.lk_law.specs.{Phase.Phase.Seeks, Places.{post_if, phase_at}}
+use Rattle.lk_law.specs.{Pv.{PostsAgree, agrees as suits}, Pv.Post.Off, Registers.is_quiet_row}
+use Rattle.lk_law.specs.{RwPhase.is_counted, RwPhase.RwPhase.{Announces, Unreads, Unwrites}}
 use Rattle.lk_law.specs.SoundWorld.{rw_phase_at}
 use Rattle.lk_core.proofs.Kicks.{owed_at}
 

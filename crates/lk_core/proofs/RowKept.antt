@@ -1,83 +1,55 @@
 -- The row of a top frame: the machine shows the histories told on by its event, which is allowed.
-use Rattle.std.proofs.Common.{◌≡◌, Bool, ℕ, Option, Some, None, true, false, List, arith, ap}
-use Rattle.std.proofs.Common.{◌<◌, ◌-◌, refl, sym, ◌∙◌, subst, length}
-use Rattle.std.proofs.lemmas.Option.{slice_get_within}
-use Rattle.lk_names.specs.History.{LockHistory}
-use Rattle.lk_names.specs.declared.holder.Manner.{Manner}
-use Rattle.lk_names.specs.declared.names.Waiter.{Waiter}
-use Rattle.lk_names.specs.declared.names.LockName.{LockName}
-use Rattle.lk_names.specs.declared.events.Event.{Event}
+use Rattle.std.proofs.Common.{◌≡◌, Bool, ℕ, Option, Some, None, true, false, List, arith, ap, ◌<◌}
+use Rattle.std.proofs.Common.{◌-◌, refl, sym, ◌∙◌, subst, length}
+use Rattle.lk_core.proofs.Names.{slice_get_within, RwFields, LockHistory, Event, Manner, LockName}
+use Rattle.lk_core.proofs.Names.{Waiter, HasNode, Machine, top_frame, top_of, program_of, rw_name}
+use Rattle.lk_core.proofs.Names.{kind_of, Effect, Freed, Lead, counted, moved, rules_of, ChoiceFlag}
+use Rattle.lk_core.proofs.Names.{ChoiceNext, ChoiceWord, FlagOf, Halted, HashEntry, KickOf, NextOf}
+use Rattle.lk_core.proofs.Names.{PvFlag, PvNext, PvWord, QueueWord, Queued, RunsOf, RwWord}
+use Rattle.lk_core.proofs.Names.{SecondTailOf, SpinWord, StateOf, Target, row, row_at, row_on}
+use Rattle.lk_core.proofs.Names.{sight_at, stored_entry, stored_flag, stored_halted, stored_kicked}
+use Rattle.lk_core.proofs.Names.{stored_next, stored_queued, stored_runs, stored_rw, stored_second}
+use Rattle.lk_core.proofs.Names.{stored_state, stored_word, target, Frame, Pc, U5, Setup, Verb}
+use Rattle.lk_core.proofs.Names.{Sight, handover_row, promotion_row, runs_row, search_row}
+use Rattle.lk_core.proofs.Names.{second_row, halt_row, hash_row, kick_row, pv_flag_row, pv_next_row}
+use Rattle.lk_core.proofs.Names.{pv_row, state_row, entry_row, flag_row, next_row, queue_row}
+use Rattle.lk_core.proofs.Names.{rw_row, spin_row, MayFollowIfAny, is_rw_row, ShowsKicks}
+use Rattle.lk_core.proofs.Names.{with_event, IsNewest, BelongsTo, Fits, ShowsAll, Works, held_of}
+use Rattle.lk_core.proofs.Names.{owes_kick, world, IsSoundWorld, spin_part, lead_on, led, put_frame}
+use Rattle.lk_core.proofs.Names.{put_held, stores_rw, told_on, World}
 use Rattle.lk_names.specs.declared.events.What.TheVariants.{Pass}
-use Rattle.lk_word.specs.declared.rw_word.RwFields.{RwFields}
-use Rattle.lk_rows.specs.declared.setup.Setup.{Setup}
-use Rattle.lk_rows.specs.declared.parts.Frame.{Frame}
-use Rattle.lk_rows.specs.declared.parts.Pc.{Pc}
-use Rattle.lk_rows.specs.declared.parts.Pc.TheVariants.{U5}
-use Rattle.lk_rows.specs.Machine.{Machine, cpu_at, frame_at, depth_at, node_at, word_at}
-use Rattle.lk_rows.specs.Machine.{queued_at, entry_at, halted_at, kicked_at, top_of, top_frame}
-use Rattle.lk_rows.specs.Machine.{HasNode, rw_at}
-use Rattle.lk_rows.specs.declared.setup.Verb.{Verb}
-use Rattle.lk_rows.specs.Programs.{kind_of}
-use Rattle.lk_rows.specs.Moves.{program_of, waiter_of, rw_name}
-use Rattle.lk_rows.specs.Row.{Lead, Freed, Tell, Nothing, Says, Passes, moved, event_of, counted}
-use Rattle.lk_rows.specs.Row.{Effect}
-use Rattle.lk_rows.specs.rows.Spin.{spin_row}
-use Rattle.lk_rows.specs.rows.Cna.{Sight, search_row, second_row, runs_row, handover_row, promotion_row}
-use Rattle.lk_rows.specs.rows.Queue.{queue_row, entry_row, flag_row, next_row}
-use Rattle.lk_rows.specs.rows.Pv.{pv_row, pv_flag_row, pv_next_row, state_row, hash_row}
-use Rattle.lk_rows.specs.rows.Pv.{halt_row, kick_row}
+use Rattle.lk_rows.specs.Machine.{cpu_at, frame_at, depth_at, node_at, word_at, queued_at, entry_at}
+use Rattle.lk_rows.specs.{Machine.{halted_at, kicked_at, rw_at}, Moves.waiter_of}
+use Rattle.lk_rows.specs.Row.{Tell, Nothing, Says, Passes, event_of}
 use Rattle.lk_machine.specs.Ready.{HasTarget}
-use Rattle.lk_rows.specs.TopRow.{Target, SpinWord, QueueWord, Queued, FlagOf, NextOf, ChoiceWord}
-use Rattle.lk_rows.specs.TopRow.{ChoiceFlag, ChoiceNext, SecondTailOf, RunsOf, PvWord, PvFlag}
-use Rattle.lk_rows.specs.TopRow.{PvNext, StateOf, HashEntry, Halted, KickOf, RwWord, target}
-use Rattle.lk_rows.specs.TopRow.{sight_at, stored_second, stored_runs, stored_state}
-use Rattle.lk_rows.specs.TopRow.{stored_entry, stored_halted, stored_kicked, stored_word}
-use Rattle.lk_rows.specs.TopRow.{stored_flag, stored_next, stored_queued, row_on, row_at, row}
-use Rattle.lk_rows.specs.TopRow.{stored_rw}
-use Rattle.lk_rows.specs.rows.Rw.{rw_row}
-use Rattle.lk_law.specs.Families.{is_rw_row}
-use Rattle.lk_law.specs.SoundWorld.{IsSoundWorld, spin_part}
-use Rattle.lk_law.specs.World.{World}
-use Rattle.lk_law.specs.Steps.{lead_on, stores_word, stores_flag, stores_next, stores_second}
-use Rattle.lk_law.specs.Steps.{stores_runs, stores_state, stores_entry, stores_halted}
-use Rattle.lk_law.specs.Steps.{stores_kicked, stores_queued, row_in, row_in_at, told_event, told_on}
-use Rattle.lk_law.specs.Steps.{put_held, put_frame, led, stores_rw, way_told}
-use Rattle.lk_law.specs.Allowed.{MayFollowIfAny}
-use Rattle.lk_law.specs.Premises.{IsNewest}
-use Rattle.lk_law.specs.Sound.{world, owes_kick, BelongsTo, Works, Fits, ShowsAll}
-use Rattle.lk_rows.specs.Rules.{rules_of}
-use Rattle.lk_law.specs.Sound.{held_of}
-use Rattle.lk_law.proofs.common.EveryRow.{every_row_keeps}
-use Rattle.lk_law.proofs.pv.KicksShown.{every_row_shows}
-use Rattle.lk_law.specs.Kicked.{ShowsKicks, with_event}
-use Rattle.lk_core.proofs.Kicks.{SameKicks, kicks_same, kicks_then, kicks_moved, kicks_led}
-use Rattle.lk_core.proofs.Kicks.{kicks_put_held}
+use Rattle.lk_law.proofs.{common.EveryRow.every_row_keeps, pv.KicksShown.every_row_shows}
+use Rattle.lk_law.specs.Steps.{stores_word, stores_flag, stores_next, stores_second, stores_runs}
+use Rattle.lk_law.specs.Steps.{stores_state, stores_entry, stores_halted, stores_kicked}
+use Rattle.lk_law.specs.Steps.{stores_queued, row_in, row_in_at, told_event, way_told}
 use Rattle.lk_core.proofs.Access.{top_frame-is}
-use Rattle.lk_core.proofs.Lists.{within_end}
-use Rattle.lk_core.proofs.Sights.{sight_same}
-use Rattle.lk_core.proofs.Same.{KeepsFrames, top_same}
-use Rattle.lk_core.proofs.Walks.{LeadFits, LeadIn}
-use Rattle.lk_core.proofs.RowsFit.{spin_fits, queue_fits, entry_fits, flag_fits, next_fits}
 use Rattle.lk_core.proofs.ChoiceRowsFit.{search_fits, second_fits, runs_fits, handover_fits}
 use Rattle.lk_core.proofs.ChoiceRowsFit.{promotion_fits}
-use Rattle.lk_core.proofs.PvRowsFit.{pv_fits, pv_flag_fits, pv_next_fits, state_fits, hash_fits}
-use Rattle.lk_core.proofs.PvRowsFit.{halt_fits}
+use Rattle.lk_core.proofs.Kicks.{SameKicks, kicks_same, kicks_then, kicks_moved, kicks_led}
+use Rattle.lk_core.proofs.{Kicks.kicks_put_held, Leads.{moved_shows, IsAt, kicked_shows}}
+use Rattle.lk_core.proofs.{Lists.within_end, Moved.{Ready, ready_same}}
 use Rattle.lk_core.proofs.NodesFit.{spin_in, queue_in, flag_in, next_in, search_in, second_in}
 use Rattle.lk_core.proofs.NodesFit.{runs_in, handover_in, promotion_in, pv_in, pv_flag_in}
 use Rattle.lk_core.proofs.NodesFit.{pv_next_in, state_in, hash_in, halt_in}
-use Rattle.lk_core.proofs.Moved.{Ready, ready_same}
-use Rattle.lk_core.proofs.Leads.{moved_shows, IsAt, kicked_shows}
-use Rattle.lk_core.proofs.Stores.{Stored, counts_stored, word_stored, queued_stored, flag_stored}
-use Rattle.lk_core.proofs.Stores.{next_stored, second_stored, runs_stored, state_stored}
-use Rattle.lk_core.proofs.Stores.{entry_stored, halted_stored, kicked_stored}
+use Rattle.lk_core.proofs.PvRowsFit.{pv_fits, pv_flag_fits, pv_next_fits, state_fits, hash_fits}
+use Rattle.lk_core.proofs.PvRowsFit.{halt_fits}
 use Rattle.lk_core.proofs.Reach.{to_of, goes_to, node_within, tail_within, entry_within}
 use Rattle.lk_core.proofs.Reach.{kick_within}
-use Rattle.lk_core.proofs.RwMoved.{RwLead, rw_leads, rw_stored, rw_moved_shows, own_not_owing}
 use Rattle.lk_core.proofs.RowParts.{StandsOnTop, StillShows, entry_is, is_kick_target, kick_target}
 use Rattle.lk_core.proofs.RowParts.{lead_fits_same, lead_in_same, not_owing, owing_target, rw_apart}
 use Rattle.lk_core.proofs.RowParts.{spin_row_of, stores_held, target_spin}
-use Rattle.lk_core.proofs.Stands.Stance.{Acts, Owes, Shares}
-use Rattle.lk_core.proofs.Stands.{Stance, stands, top_newest}
+use Rattle.lk_core.proofs.RowsFit.{spin_fits, queue_fits, entry_fits, flag_fits, next_fits}
+use Rattle.lk_core.proofs.RwMoved.{RwLead, rw_leads, rw_stored, rw_moved_shows, own_not_owing}
+use Rattle.lk_core.proofs.{Same.{KeepsFrames, top_same}, Sights.sight_same}
+use Rattle.lk_core.proofs.{Stands.{Stance, stands, top_newest}, Stands.Stance.{Acts, Owes, Shares}}
+use Rattle.lk_core.proofs.Stores.{Stored, counts_stored, word_stored, queued_stored, flag_stored}
+use Rattle.lk_core.proofs.Stores.{next_stored, second_stored, runs_stored, state_stored}
+use Rattle.lk_core.proofs.Stores.{entry_stored, halted_stored, kicked_stored}
+use Rattle.lk_core.proofs.Walks.{LeadFits, LeadIn}
 
 module _ (m : Machine) (p : ℕ) (f : Frame) (c : Pc) (hs : LockName → LockHistory)
     (a : StandsOnTop m p f c hs) where

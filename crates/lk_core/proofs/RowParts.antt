@@ -1,46 +1,25 @@
 -- What a row of an operation does with its lock: which part of a lock it is, and on what it
 -- operates.
 use Rattle.std.proofs.Common.{◌≡◌, inl, inr, Bool, ℕ, Option, Some, None, true, false, List, []}
-use Rattle.std.proofs.Common.{◌∷◌, arith, ap, ◌<◌, refl, sym, ◌∙◌, subst, length}
-use Rattle.std.proofs.lemmas.Bool.{cases_Bool}
-use Rattle.std.specs.Prelude.{◌||◌}
-use Rattle.lk_names.specs.History.{LockHistory}
-use Rattle.lk_names.specs.declared.names.Mode.{Mode}
-use Rattle.lk_names.specs.declared.names.LockName.{LockName}
-use Rattle.lk_names.specs.declared.events.Event.{Event}
-use Rattle.lk_names.specs.declared.names.Mode.TheVariants.{Virt, Native, Cna, Pv}
-use Rattle.lk_word.specs.declared.rw_word.RwFields.{RwFields}
-use Rattle.lk_rows.specs.declared.setup.Setup.{Setup}
-use Rattle.lk_rows.specs.declared.parts.Frame.{Frame}
-use Rattle.lk_rows.specs.declared.parts.Pc.{Pc}
-use Rattle.lk_rows.specs.declared.parts.Pc.TheVariants.{U1, U2, U3, U4, U5, G1, R1, R2, R3, R4}
-use Rattle.lk_rows.specs.declared.parts.Pc.TheVariants.{R5, Wr1, Wr2, Wr3, Wr4, Wr5, Wr6, Y1, Y2}
-use Rattle.lk_rows.specs.declared.parts.Pc.TheVariants.{Y3, Y4, Y5, Z1, Z2}
-use Rattle.lk_rows.specs.Machine.{Machine, frame_at, top_of, HasNode}
-use Rattle.lk_rows.specs.declared.setup.Verb.{Verb}
-use Rattle.lk_rows.specs.declared.setup.Verb.TheVariants.{Lock, Try, Unlock}
-use Rattle.lk_rows.specs.Row.{Change, Prev, TargetIs, Lead, Goes, Enters, Granted, Freed, Missed}
-use Rattle.lk_rows.specs.Row.{Done, TakesWait, Leaves, Yields, Answer}
-use Rattle.lk_rows.specs.TopRow.{Target, Queued, KickOf, RwWord, target, row}
-use Rattle.lk_law.specs.RwPhase.{RwPhase, is_inner}
-use Rattle.lk_law.specs.RwPhase.RwPhase.{Away, Asks, Frees}
-use Rattle.lk_law.proofs.common.Puts.{if-false}
-use Rattle.lk_law.specs.Families.{is_rw_row, is_release_row}
-use Rattle.lk_law.specs.SoundWorld.{Part, part_of, rw_own_phase}
-use Rattle.lk_law.specs.SoundWorld.{rw_wait_phase, rw_phase_if, rw_phase_of}
+use Rattle.std.proofs.Common.{◌∷◌, arith, ap, ◌<◌, refl, sym, ◌∙◌, subst, length, ◌||◌}
+use Rattle.lk_core.proofs.Names.{cases_Bool, RwFields, LockHistory, Event, LockName, Mode, Cna}
+use Rattle.lk_core.proofs.Names.{Native, Pv, Virt, HasNode, Machine, top_of, Answer, Change, Done}
+use Rattle.lk_core.proofs.Names.{Enters, Freed, Goes, Granted, Lead, Leaves, Missed, Prev}
+use Rattle.lk_core.proofs.Names.{TakesWait, TargetIs, Yields, rules_of, KickOf, Queued, RwWord}
+use Rattle.lk_core.proofs.Names.{Target, row, target, Frame, Pc, R1, R2, R4, R5, U2, U3, U4, U5}
+use Rattle.lk_core.proofs.Names.{Wr1, Wr2, Wr3, Wr6, Y1, Y2, Y4, Y5, Setup, Verb, Lock, Try, Unlock}
+use Rattle.lk_core.proofs.Names.{if-false, MayFollowIfAny, chooses, is_halting_row, is_queued_row}
+use Rattle.lk_core.proofs.Names.{is_rw_row, ShowsKicks, with_event, RwPhase, is_inner, Asks, Away}
+use Rattle.lk_core.proofs.Names.{BelongsTo, ShowsAll, frees, is_lock_row, is_over, is_virt_row}
+use Rattle.lk_core.proofs.Names.{owes_kick, world, rw_own_phase, rw_phase_if, rw_phase_of}
+use Rattle.lk_core.proofs.Names.{stores_rw, told_on, World}
+use Rattle.lk_rows.specs.Machine.{frame_at}
+use Rattle.lk_rows.specs.declared.parts.Pc.TheVariants.{U1, G1, R3, Wr4, Wr5, Y3, Z1, Z2}
+use Rattle.lk_law.specs.{Families.is_release_row, RwPhase.RwPhase.Frees}
+use Rattle.lk_law.specs.SoundWorld.{Part, part_of, rw_wait_phase}
 use Rattle.lk_law.specs.SoundWorld.Part.{Taking as Takes, Freeing as Gives}
-use Rattle.lk_law.specs.World.{World}
-use Rattle.lk_law.specs.Steps.{told_on, stores_rw}
-use Rattle.lk_law.specs.Families.{chooses}
-use Rattle.lk_law.specs.Allowed.{MayFollowIfAny}
-use Rattle.lk_law.specs.Sound.{world, is_virt_row}
-use Rattle.lk_rows.specs.Rules.{rules_of}
-use Rattle.lk_law.specs.Families.{is_queued_row, is_halting_row}
-use Rattle.lk_law.specs.Sound.{owes_kick, is_over, BelongsTo, ShowsAll, is_lock_row, frees}
-use Rattle.lk_law.specs.Kicked.{ShowsKicks, with_event}
-use Rattle.lk_core.proofs.Same.{KeepsFrames, node_kept}
+use Rattle.lk_core.proofs.{Leads.IsFreeing, Same.{KeepsFrames, node_kept}}
 use Rattle.lk_core.proofs.Walks.{LeadFits, LeadIn, ChangesIn, IsOuter}
-use Rattle.lk_core.proofs.Leads.{IsFreeing}
 
 -- After a row or an act the machine shows the histories told on by the event, and the event is
 -- allowed; and where it showed the halts and kicks of some events, it shows those of the events

@@ -1,28 +1,15 @@
 -- Each row of an operation leads to a row of the same operation, or ends it as its verb does.
-use Rattle.std.proofs.Common.{◌≡◌, ◌⊎◌, ℕ, ◌<◌, arith, Option, Some, None, Bool, true}
-use Rattle.std.proofs.Common.{false, inl, inr, refl, sym, subst}
-use Rattle.std.specs.Prelude.{if◌then◌else◌, ◌&&◌, not, is_some, nat_lt}
-use Rattle.std.proofs.lemmas.Bool.{cases_Bool, ltb-true}
-use Rattle.lk_names.specs.declared.names.Mode.{Mode}
-use Rattle.lk_names.specs.declared.names.Mode.TheVariants.{Virt, Native, Cna, Pv}
-use Rattle.lk_word.specs.declared.spin_word.NodeName.{NodeName}
-use Rattle.lk_word.specs.declared.spin_word.Fields.{Fields}
-use Rattle.lk_rows.specs.declared.setup.Verb.{Verb}
-use Rattle.lk_rows.specs.declared.setup.Verb.TheVariants.{Lock, Try, Unlock}
-use Rattle.lk_rows.specs.declared.parts.Flag.{Flag}
-use Rattle.lk_rows.specs.declared.parts.Frame.{Frame}
-use Rattle.lk_rows.specs.declared.parts.Pc.{Pc}
-use Rattle.lk_rows.specs.declared.parts.Pc.TheVariants.{F1, T1, T2, V1, V2, P0, P1, P2, P3, P4}
-use Rattle.lk_rows.specs.declared.parts.Pc.TheVariants.{G1, G2, G3, G4, G6, G7, G8, G9, G10, N1}
-use Rattle.lk_rows.specs.declared.parts.Pc.TheVariants.{N2, G5, G11, U1, U2, U3, U4}
-use Rattle.lk_rows.specs.Moves.{is_node, node_of}
-use Rattle.lk_rows.specs.Row.{Enters}
-use Rattle.lk_rows.specs.rows.Spin.{spin_row, is_free, is_unlocked, to_queue, after_fast}
-use Rattle.lk_rows.specs.rows.Spin.{after_pending}
-use Rattle.lk_rows.specs.rows.Queue.{queue_row, entry_row, flag_row, next_row, after_entry}
-use Rattle.lk_rows.specs.rows.Queue.{after_look, is_sole}
-use Rattle.lk_law.specs.Sound.{BelongsTo, is_choosing_row, is_lock_row}
-use Rattle.lk_law.specs.Families.{is_queued_row}
+use Rattle.std.proofs.Common.{◌≡◌, ◌⊎◌, ℕ, ◌<◌, arith, Option, Some, None, Bool, true, false, inl}
+use Rattle.std.proofs.Common.{inr, refl, sym, subst, if◌then◌else◌, ◌&&◌, not, is_some, nat_lt}
+use Rattle.std.proofs.lemmas.Bool.{ltb-true}
+use Rattle.lk_core.proofs.Names.{cases_Bool, Fields, NodeName, Mode, Cna, Native, Pv, Virt, is_node}
+use Rattle.lk_core.proofs.Names.{node_of, Enters, Flag, Frame, Pc, F1, G3, G4, G5, G6, G8, G10, G11}
+use Rattle.lk_core.proofs.Names.{N2, P4, T1, T2, U2, U3, U4, V2, Verb, Lock, Try, Unlock, entry_row}
+use Rattle.lk_core.proofs.Names.{flag_row, is_sole, next_row, queue_row, is_free, is_unlocked}
+use Rattle.lk_core.proofs.Names.{spin_row, is_queued_row, BelongsTo, is_choosing_row, is_lock_row}
+use Rattle.lk_rows.specs.declared.parts.Pc.TheVariants.{V1, P0, P1, P2, P3, G1, G2, G7, G9, N1, U1}
+use Rattle.lk_rows.specs.rows.Queue.{after_entry, after_look}
+use Rattle.lk_rows.specs.rows.Spin.{to_queue, after_fast, after_pending}
 use Rattle.lk_core.proofs.Walks.{LeadFits}
 use Rattle.lk_rows.specs.declared.parts.Flag.TheVariants as flag
 

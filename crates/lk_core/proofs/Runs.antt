@@ -1,39 +1,46 @@
 -- The laws over machines: acts, the machine at rest, and runs.
 use Rattle.std.proofs.Common.{slice_get, ◌≡◌, ◌≤◌, ℕ, suc, Option, Some, None, List, [], ◌∷◌, ◌++◌}
 use Rattle.std.proofs.Common.{ap, refl, sym, ◌∙◌, subst, length, append_assoc, arith, Bool, true}
-use Rattle.std.proofs.Common.{false}
+use Rattle.std.proofs.Common.{false, get_or, All}
 use Rattle.std.proofs.lemmas.List.{append-nil}
-use Rattle.lk_names.specs.History.{LockHistory, no_history, history_of}
-use Rattle.lk_names.specs.Lawful.{IsLawful}
-use Rattle.lk_names.specs.declared.names.LockName.{LockName}
-use Rattle.lk_names.specs.declared.events.Act.{Act}
-use Rattle.lk_names.specs.declared.events.Event.{Event}
+use Rattle.lk_core.proofs.Names.{cases_Bool, slice_get-get_or, LockHistory, Act, Event, Kind, Spin}
+use Rattle.lk_core.proofs.Names.{LockName, Pv, next, Machine, rw_name, rules_of, Setup, if-false}
+use Rattle.lk_core.proofs.Names.{halts, MayFollowIfAny, ShowsKicks, with_event, ShowsAll, world}
+use Rattle.lk_core.proofs.Names.{IsSoundWorld, spin_part, told_on, World}
 use Rattle.lk_names.proofs.Moments.{history_of-push}
-use Rattle.lk_abs.proofs.OneMore.{lawful-nil}
-use Rattle.lk_rows.specs.declared.setup.Setup.{Setup}
-use Rattle.lk_rows.specs.Machine.{Machine}
-use Rattle.lk_rows.specs.Acts.{next}
-use Rattle.lk_rows.specs.Run.{at_rest, history_from, occurs, machine_after, events_of}
-use Rattle.lk_rows.specs.Run.{Occurrence}
-use Rattle.lk_law.specs.Steps.{told_on}
-use Rattle.lk_law.specs.Sound.{world, ShowsAll, Shows}
-use Rattle.lk_rows.specs.Rules.{rules_of}
+use Rattle.lk_names.specs.{History.{no_history, history_of}, Lawful.{IsLawful, Rules, FrontIsOwed}}
+use Rattle.lk_names.specs.declared.names.Kind.TheVariants.{Rw}
+use Rattle.lk_abs.proofs.OneMore.{lawful-nil, lawful-push, told_here}
+use Rattle.lk_rows.specs.Run.{at_rest, history_from, occurs, machine_after, events_of, Occurrence}
+use Rattle.lk_law.proofs.{cna.Knows.passes_are_bounded, pv.HaltLayers.fronts_are_owed}
 use Rattle.lk_law.specs.MachineLaws.{ShowsLawful, ActKeeps, AreInRange, RestShows, RunKeeps}
-use Rattle.lk_law.proofs.cna.Knows.{passes_are_bounded}
-use Rattle.lk_core.proofs.ActKept.{act_kept}
+use Rattle.lk_law.specs.{Sound.Shows, SoundWorld.{is_rw, is_rw_name}}
+use Rattle.lk_core.proofs.{ActKept.act_kept, Rest.{rest_shows_all, rest_shows_kicks}}
 use Rattle.lk_core.proofs.Setups.{setup_kept}
-use Rattle.lk_core.proofs.LawfulKept.{lawful_then}
-use Rattle.lk_core.proofs.Rest.{rest_shows_all, rest_shows_kicks}
-use Rattle.lk_law.specs.Kicked.{ShowsKicks, with_event}
-use Rattle.lk_law.specs.Agree.{halts}
-use Rattle.lk_law.proofs.pv.HaltLayers.{fronts_are_owed}
-use Rattle.lk_law.specs.World.{World}
-use Rattle.lk_law.specs.SoundWorld.{IsSoundWorld, spin_part, is_rw, is_rw_name}
-use Rattle.lk_law.proofs.common.Puts.{if-false}
-use Rattle.lk_rows.specs.Moves.{rw_name}
-use Rattle.lk_names.specs.declared.names.Kind.{Kind}
-use Rattle.lk_names.specs.declared.names.Kind.TheVariants.{Spin, Rw}
-use Rattle.std.proofs.lemmas.Bool.{cases_Bool}
+
+few_pass : (threshold : ℕ) (ns : List ℕ) → ((i n : ℕ) → slice_get ns i ≡ Some n → n ≤ threshold)
+    → All (λ n. n ≤ threshold) ns
+few_pass threshold ns few k d low = few k (get_or ns k d) (slice_get-get_or ns k d low)
+
+-- a lawful history stays lawful with one allowed event more, while nobody that stands aside is
+-- passed by more handovers than the threshold and, in the paravirtual lock, every front that sleeps
+-- while nobody holds its lock is owed a kick
+lawful_then : (rules : Rules) (es : List Event) (o : Option Event) → IsLawful rules es
+    → MayFollowIfAny rules (λ l. history_of l es) o
+    → ((l : LockName) (i n : ℕ) → slice_get (history_of l (with_event es o)).passes i ≡ Some n
+    → n ≤ rules.threshold)
+    → (rules.mode ≡ Pv → (l : LockName) → FrontIsOwed (with_event es o) l)
+    → IsLawful rules (with_event es o)
+lawful_then rules es None lawful allowed few owed = lawful
+lawful_then rules es (Some e) lawful allowed few owed =
+    lawful-push rules es e lawful (λ l on. let a = allowed l on in record {
+      shared = a.shared;
+      owned = a.owned;
+      ordered = a.ordered;
+      bounded = subst (λ (h : LockHistory). All (λ n. n ≤ rules.threshold) h.passes)
+          (told_here l es e on)
+          (few_pass rules.threshold (history_of l (with_event es (Some e))).passes (few l));
+    }) owed
 
 -- the histories of a list of events, told on, are those of the list with the event
 told_then : (es : List Event) (o : Option Event)

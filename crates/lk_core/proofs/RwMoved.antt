@@ -1,58 +1,34 @@
 -- The rows of readers and writers on a machine: what they store, and where they lead.
 use Rattle.std.proofs.Common.{◌≡◌, inl, inr, ℕ, Option, Some, None, Bool, true, false, List, []}
 use Rattle.std.proofs.Common.{◌<◌, ◌+◌, arith, ap, refl, sym, ◌∙◌, subst, length, length-set}
-use Rattle.std.specs.Prelude.{if◌then◌else◌, ◌==◌, ◌||◌, slice_index_or}
-use Rattle.std.proofs.lemmas.Bool.{cases_eq, eq-eqb, ne_eqb}
-use Rattle.lk_names.specs.Names.{same_lock}
-use Rattle.lk_names.specs.History.{LockHistory}
-use Rattle.lk_names.specs.declared.holder.Manner.{Manner}
-use Rattle.lk_names.specs.declared.names.Kind.TheVariants.{Spin}
-use Rattle.lk_names.specs.declared.names.Mode.{Mode}
-use Rattle.lk_names.specs.declared.names.Mode.TheVariants.{Virt, Native, Cna, Pv}
-use Rattle.lk_names.specs.declared.names.Waiter.{Waiter}
-use Rattle.lk_names.specs.declared.names.LockName.{LockName}
+use Rattle.std.proofs.Common.{if◌then◌else◌, ◌==◌, ◌||◌, slice_index_or}
+use Rattle.lk_core.proofs.Names.{cases_eq, eq-eqb, ne_eqb, RwFields, NodeName, LockHistory}
+use Rattle.lk_core.proofs.Names.{same_lock, Manner, Spin, LockName, Mode, Cna, Native, Pv, Virt}
+use Rattle.lk_core.proofs.Names.{Waiter, HasNode, LockState, Machine, top_of, first_place}
+use Rattle.lk_core.proofs.Names.{program_of, rw_name, waiting, is_try, way_after, Done, Effect}
+use Rattle.lk_core.proofs.Names.{Goes, Lead, Missed, TakesWait, moved, stored_rw, Frame, Pc, F1, R1}
+use Rattle.lk_core.proofs.Names.{R2, R4, R5, U5, Wr1, Wr2, Wr3, Wr6, Y1, Y2, Y4, Y5, Op, Setup}
+use Rattle.lk_core.proofs.Names.{Verb, Lock, RUnlock, Read, Try, TryRead, TryWrite, Unlock, WUnlock}
+use Rattle.lk_core.proofs.Names.{Write, is_cleared, is_empty, is_open, rw_row, lock_cases}
+use Rattle.lk_core.proofs.Names.{held_goes, if-true, same_lock-else, same_lock-self, is_rw_row}
+use Rattle.lk_core.proofs.Names.{RwPhase, is_inner, Asks, BelongsTo, Freeing, RwBelongs, Sharing}
+use Rattle.lk_core.proofs.Names.{ShowsAll, Waiting, after_wait, frees, held_at, held_in, held_of}
+use Rattle.lk_core.proofs.Names.{is_lock_row, is_over, owes_kick, world, IsSoundWorld, rw_own_phase}
+use Rattle.lk_core.proofs.Names.{rw_phase_if, rw_phase_of, led, put_frame, put_held, stores_rw}
 use Rattle.lk_names.specs.declared.events.What.TheVariants.{Miss}
-use Rattle.lk_word.specs.declared.spin_word.NodeName.{NodeName}
-use Rattle.lk_word.specs.declared.rw_word.RwFields.{RwFields}
-use Rattle.lk_rows.specs.declared.setup.Setup.{Setup}
-use Rattle.lk_rows.specs.declared.setup.Op.{Op}
-use Rattle.lk_rows.specs.declared.setup.Verb.{Verb}
-use Rattle.lk_rows.specs.declared.setup.Verb.TheVariants.{Lock, Try, Unlock, Read, TryRead}
-use Rattle.lk_rows.specs.declared.setup.Verb.TheVariants.{RUnlock, Write, TryWrite, WUnlock}
-use Rattle.lk_rows.specs.declared.parts.Frame.{Frame}
-use Rattle.lk_rows.specs.declared.parts.Pc.{Pc}
-use Rattle.lk_rows.specs.declared.parts.Pc.TheVariants.{F1, U5, R1, R2, R3, R4, R5, Wr1, Wr2}
-use Rattle.lk_rows.specs.declared.parts.Pc.TheVariants.{Wr3, Wr4, Wr5, Wr6, Y1, Y2, Y3, Y4, Y5}
-use Rattle.lk_rows.specs.declared.parts.Pc.TheVariants.{Z1, Z2}
-use Rattle.lk_rows.specs.Machine.{Machine, LockState, cpu_at, lock_at, word_at, rw_at, node_at}
-use Rattle.lk_rows.specs.Machine.{frame_at, queued_at, entry_at, kicked_at, halted_at}
-use Rattle.lk_rows.specs.Machine.{handlers_at, depth_at, top_of, set_lock, set_rw, HasNode}
-use Rattle.lk_rows.specs.Programs.{way_after, is_try}
-use Rattle.lk_rows.specs.Moves.{first_place, rw_name, program_of, waiting}
-use Rattle.lk_rows.specs.Row.{Effect, Lead, Goes, Missed, Done, TakesWait, moved, looks, writes}
-use Rattle.lk_rows.specs.Row.{misses}
-use Rattle.lk_rows.specs.rows.Rw.{rw_row, is_empty, is_open, is_cleared, one_more, rw_lock}
-use Rattle.lk_rows.specs.rows.Rw.{admits, takes_written, queues_up, frees_wait, after_bias}
-use Rattle.lk_rows.specs.TopRow.{stored_rw}
-use Rattle.lk_law.specs.RwPhase.{RwPhase, is_inner}
-use Rattle.lk_law.specs.RwPhase.RwPhase.{Asks, Frees}
-use Rattle.lk_law.specs.Steps.{put_rw, put_frame, put_held, stores_rw, way_told, led}
-use Rattle.lk_law.specs.SoundWorld.{IsSoundWorld, rw_own_phase, rw_phase_of, rw_phase_if}
-use Rattle.lk_law.specs.Families.{is_rw_row, is_release_row}
-use Rattle.lk_law.specs.Sound.{world, is_lock_row, held_at, held_in, held_of, frees, owes_kick}
-use Rattle.lk_law.specs.Sound.{is_over, BelongsTo, RwBelongs, Sharing, Waiting, Freeing, takes_wait}
-use Rattle.lk_law.specs.Sound.{after_wait, ShowsAll}
-use Rattle.lk_law.proofs.common.Puts.{if_cases, if-true, same_lock-else}
-use Rattle.lk_law.proofs.common.Cases.{lock_cases}
-use Rattle.lk_law.proofs.common.Sames.{same_lock-self}
-use Rattle.lk_law.proofs.common.HeldAfter.{Stance, held_goes, held_frees}
-use Rattle.lk_core.proofs.Access.{lock_part, lock_same, lock_other}
-use Rattle.lk_core.proofs.Seated.{alike}
-use Rattle.lk_core.proofs.Same.{KeepsFrames, same_self}
-use Rattle.lk_core.proofs.Stores.{Stored}
-use Rattle.lk_core.proofs.Walks.{IsOuter, NodesIn, holds_done}
+use Rattle.lk_rows.specs.Machine.{cpu_at, lock_at, word_at, rw_at, node_at, frame_at, queued_at}
+use Rattle.lk_rows.specs.Machine.{entry_at, kicked_at, halted_at, handlers_at, depth_at, set_lock}
+use Rattle.lk_rows.specs.{Machine.set_rw, Row.{looks, writes, misses}}
+use Rattle.lk_rows.specs.declared.parts.Pc.TheVariants.{R3, Wr4, Wr5, Y3, Z1, Z2}
+use Rattle.lk_rows.specs.rows.Rw.{one_more, rw_lock, admits, takes_written, queues_up, frees_wait}
+use Rattle.lk_rows.specs.rows.Rw.{after_bias}
+use Rattle.lk_law.proofs.{common.HeldAfter.{Stance, held_frees}, common.Puts.if_cases}
+use Rattle.lk_law.specs.{Families.is_release_row, RwPhase.RwPhase.Frees, Sound.takes_wait}
+use Rattle.lk_law.specs.Steps.{put_rw, way_told}
+use Rattle.lk_core.proofs.{Access.{lock_part, lock_same, lock_other}, LeadsOut.{done_is, missed_is}}
 use Rattle.lk_core.proofs.Moved.{Ready, ready_nodes, goes_shows, done_shows, missed_shows}
-use Rattle.lk_core.proofs.LeadsOut.{done_is, missed_is}
+use Rattle.lk_core.proofs.{Same.{KeepsFrames, same_self}, Seated.alike, Stores.Stored}
+use Rattle.lk_core.proofs.Walks.{IsOuter, NodesIn, holds_done}
 use Rattle.lk_names.specs.declared.events.RwHow.TheVariants as how
 
 -- what a store of a reader-writer lock's word does to the world

@@ -2,27 +2,18 @@
 -- is. So a whole machine stays whole, and frames that fit go on to fit.
 use Rattle.std.proofs.Common.{◌≡◌, ◌≢◌, ℕ, Option, Some, None, Bool, List, [], ◌∷◌, ◌++◌, inl, inr}
 use Rattle.std.proofs.Common.{arith, ap, ◌<◌, ◌≤◌, ◌+◌, ◌-◌, refl, sym, ◌∙◌, subst, length, set}
-use Rattle.std.proofs.Common.{take}
-use Rattle.std.specs.Prelude.{if◌then◌else◌}
-use Rattle.std.proofs.lemmas.Bool.{cases_eq}
+use Rattle.std.proofs.Common.{take, if◌then◌else◌}
 use Rattle.std.proofs.lemmas.List.{length-set, length_push, length-take-le}
-use Rattle.lk_names.specs.declared.names.Waiter.{Waiter}
-use Rattle.lk_names.specs.declared.names.LockName.{LockName}
-use Rattle.lk_word.specs.declared.spin_word.NodeName.{NodeName}
-use Rattle.lk_word.specs.declared.spin_word.Fields.{Fields}
-use Rattle.lk_rows.specs.declared.setup.Setup.{Setup}
-use Rattle.lk_rows.specs.declared.parts.Frame.{Frame}
-use Rattle.lk_rows.specs.declared.parts.Node.{Node}
-use Rattle.lk_rows.specs.declared.parts.Counts.{Counts}
-use Rattle.lk_rows.specs.Machine.{Machine, CpuState, cpu_at, lock_at, depth_at, handlers_at}
-use Rattle.lk_rows.specs.Machine.{HasNode, with_entry, without_entry, set_halted, set_kicked, set_entry}
-use Rattle.lk_rows.specs.Machine.{top_of, set_cpu, set_lock, set_counts, set_word, set_node}
-use Rattle.lk_rows.specs.Machine.{set_top, set_queued, set_preempted, pop, push, HasTop}
-use Rattle.lk_rows.specs.Programs.{IsLawfulSetup, handlers_of, program_at}
-use Rattle.lk_law.specs.Sound.{IsWhole, Fits, Works, IsEnteredOnce}
-use Rattle.lk_core.proofs.Entries.{Entry, once_without, once_with}
-use Rattle.lk_core.proofs.Worlds.{hashing}
+use Rattle.lk_core.proofs.Names.{cases_eq, Fields, NodeName, LockName, Waiter, CpuState, HasNode}
+use Rattle.lk_core.proofs.Names.{HasTop, Machine, top_of, with_entry, without_entry, handlers_of}
+use Rattle.lk_core.proofs.Names.{program_at, Counts, Frame, Node, Setup, Fits, IsEnteredOnce}
+use Rattle.lk_core.proofs.Names.{IsWhole, Works}
+use Rattle.lk_rows.specs.Machine.{cpu_at, lock_at, depth_at, handlers_at, set_halted, set_kicked}
+use Rattle.lk_rows.specs.Machine.{set_entry, set_cpu, set_lock, set_counts, set_word, set_node}
+use Rattle.lk_rows.specs.Machine.{set_top, set_queued, set_preempted, pop, push}
+use Rattle.lk_rows.specs.Programs.{IsLawfulSetup}
 use Rattle.lk_core.proofs.Access.{cpu_same, cpu_other, cpu_part}
+use Rattle.lk_core.proofs.{Entries.{Entry, once_without, once_with}, Worlds.hashing}
 
 -- the setup is kept, and how much there is; no handler comes back; and each lock is entered once
 -- still

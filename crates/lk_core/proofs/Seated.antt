@@ -1,32 +1,19 @@
 -- The world of a machine after a write that changes one frame, or nothing that the world shows.
 use Rattle.std.proofs.Common.{◌≡◌, ◌≢◌, ℕ, Option, Some, None, Bool, List, [], ◌∷◌, ◌++◌, inl, inr}
 use Rattle.std.proofs.Common.{arith, ap, ◌<◌, ◌+◌, ◌-◌, refl, sym, ◌∙◌, subst, slice_get, length}
-use Rattle.std.proofs.Common.{get_or, set, take}
-use Rattle.std.specs.Prelude.{if◌then◌else◌}
+use Rattle.std.proofs.Common.{get_or, set, take, if◌then◌else◌}
 use Rattle.std.proofs.lemmas.Bool.{cases_order}
-use Rattle.std.proofs.lemmas.Option.{slice_get_past}
-use Rattle.lk_names.specs.Names.{same_waiter}
-use Rattle.lk_names.specs.declared.names.Waiter.{Waiter}
-use Rattle.lk_names.specs.declared.names.LockName.{LockName}
-use Rattle.lk_word.specs.declared.spin_word.NodeName.{NodeName}
-use Rattle.lk_word.specs.declared.spin_word.Fields.{Fields}
-use Rattle.lk_rows.specs.declared.parts.Frame.{Frame}
-use Rattle.lk_rows.specs.declared.parts.Node.{Node}
-use Rattle.lk_rows.specs.declared.parts.Counts.{Counts}
-use Rattle.lk_rows.specs.Machine.{Machine, CpuState, cpu_at, lock_at, word_at, rw_at, node_at}
-use Rattle.lk_rows.specs.Machine.{frame_at, queued_at, entry_at, halted_at, kicked_at, depth_at}
-use Rattle.lk_rows.specs.Machine.{top_of, set_cpu, set_lock, set_counts, set_word, set_top}
-use Rattle.lk_rows.specs.Machine.{set_preempted, pop, push, rest_node, HasTop}
-use Rattle.lk_law.specs.World.{World}
-use Rattle.lk_law.specs.Steps.{put_frame}
-use Rattle.lk_law.specs.Sound.{world, held_at, held_of}
-use Rattle.lk_law.proofs.common.Cases.{waiter_cases}
-use Rattle.lk_law.proofs.common.Sames.{same_waiter-self}
-use Rattle.lk_law.proofs.common.Puts.{same_waiter-else}
+use Rattle.lk_core.proofs.Names.{slice_get_past, Fields, NodeName, same_waiter, LockName, Waiter}
+use Rattle.lk_core.proofs.Names.{CpuState, HasTop, Machine, rest_node, top_of, Counts, Frame, Node}
+use Rattle.lk_core.proofs.Names.{waiter_cases, same_waiter-else, same_waiter-self, held_at, held_of}
+use Rattle.lk_core.proofs.Names.{world, put_frame, World}
 use Rattle.lk_names.proofs.ByIndex.{get-append_new}
+use Rattle.lk_rows.specs.Machine.{cpu_at, lock_at, word_at, rw_at, node_at, frame_at, queued_at}
+use Rattle.lk_rows.specs.Machine.{entry_at, halted_at, kicked_at, depth_at, set_cpu, set_lock}
+use Rattle.lk_rows.specs.Machine.{set_counts, set_word, set_top, set_preempted, pop, push}
+use Rattle.lk_core.proofs.Access.{cpu_part, frame_changed}
 use Rattle.lk_core.proofs.Lists.{get-set_same, get-set_other, get-take_below, get-take_end}
 use Rattle.lk_core.proofs.Lists.{get-push_other}
-use Rattle.lk_core.proofs.Access.{cpu_part, frame_changed}
 
 -- two worlds agree everywhere
 pub record SameWorld (a b : World) : Type 0 where

@@ -2,42 +2,25 @@
 -- operation, is finished, or is popped; and the machine shows what it showed.
 use Rattle.std.proofs.Common.{◌≡◌, ◌≢◌, ℕ, Option, Some, None, Bool, true, false, List, inl, inr}
 use Rattle.std.proofs.Common.{arith, ap, ◌<◌, ◌≤◌, refl, sym, ◌∙◌, subst, slice_get, length}
-use Rattle.std.specs.Prelude.{if◌then◌else◌, ◌==◌, ◌||◌, slice_index_or}
-use Rattle.std.proofs.lemmas.Bool.{cases_Bool, eqb-false}
-use Rattle.std.proofs.lemmas.Option.{same_Some, none-some, get_or_from_slice_get}
-use Rattle.lk_names.specs.Names.{same_waiter}
-use Rattle.lk_names.specs.History.{LockHistory}
-use Rattle.lk_names.specs.declared.names.Kind.{Kind}
-use Rattle.lk_names.specs.declared.names.Kind.TheVariants.{Spin}
-use Rattle.lk_names.specs.declared.names.Mode.{Mode}
-use Rattle.lk_names.specs.declared.names.Mode.TheVariants.{Virt, Native, Cna, Pv}
-use Rattle.lk_names.specs.declared.names.Waiter.{Waiter}
-use Rattle.lk_names.specs.declared.names.LockName.{LockName}
-use Rattle.lk_rows.specs.declared.setup.Op.{Op}
-use Rattle.lk_rows.specs.declared.setup.Verb.{Verb}
-use Rattle.lk_rows.specs.declared.setup.Verb.TheVariants.{Lock, Try, Unlock, Read, TryRead}
-use Rattle.lk_rows.specs.declared.setup.Verb.TheVariants.{RUnlock, Write, TryWrite, WUnlock}
-use Rattle.lk_rows.specs.declared.parts.Frame.{Frame}
-use Rattle.lk_rows.specs.declared.parts.Pc.{Pc}
-use Rattle.lk_rows.specs.Machine.{Machine, frame_at, top_of, set_top, pop, HasTop, HasNode}
-use Rattle.lk_rows.specs.Programs.{IsLawfulProgram, kind_of, way_at, way_before}
-use Rattle.lk_rows.specs.Moves.{first_place, program_of, started, settled, settled_at}
-use Rattle.lk_law.specs.Premises.{IsThen}
-use Rattle.lk_law.specs.World.{World}
-use Rattle.lk_law.specs.Steps.{put_frame}
-use Rattle.lk_law.specs.Sound.{world, held_at, held_of, RunsOne, Fits, IsWhole, ShowsAll, held_idle}
-use Rattle.lk_law.specs.Sound.{frees, owes_kick, Footing, Spinning, Sharing}
-use Rattle.lk_law.proofs.common.Cases.{waiter_cases}
-use Rattle.lk_law.proofs.common.Sames.{same_waiter-self}
-use Rattle.lk_law.proofs.common.Puts.{same_waiter-else}
+use Rattle.std.proofs.Common.{if◌then◌else◌, ◌==◌, ◌||◌, slice_index_or}
+use Rattle.std.proofs.{lemmas.Bool.eqb-false, lemmas.Option.get_or_from_slice_get}
+use Rattle.lk_core.proofs.Names.{cases_Bool, none-some, same_Some, LockHistory, same_waiter, Kind}
+use Rattle.lk_core.proofs.Names.{Spin, LockName, Mode, Cna, Native, Pv, Virt, Waiter, HasNode}
+use Rattle.lk_core.proofs.Names.{HasTop, Machine, top_of, first_place, program_of, settled}
+use Rattle.lk_core.proofs.Names.{settled_at, started, kind_of, way_at, way_before, Frame, Pc, Op}
+use Rattle.lk_core.proofs.Names.{Verb, Lock, RUnlock, Read, Try, TryRead, TryWrite, Unlock, WUnlock}
+use Rattle.lk_core.proofs.Names.{Write, waiter_cases, same_waiter-else, same_waiter-self, RwPhase}
+use Rattle.lk_core.proofs.Names.{is_inner, Fits, Footing, IsWhole, Sharing, ShowsAll, Spinning}
+use Rattle.lk_core.proofs.Names.{frees, held_at, held_idle, held_of, owes_kick, world, IsSoundWorld}
+use Rattle.lk_core.proofs.Names.{RwFits, rw_phase_if, rw_phase_of, put_frame, World}
 use Rattle.lk_names.proofs.ByIndex.{get_past}
+use Rattle.lk_rows.specs.{Machine.{frame_at, set_top, pop}, Programs.IsLawfulProgram}
 use Rattle.lk_law.proofs.rw.Begins.{begin_keeps, end_keeps}
-use Rattle.lk_law.specs.SoundWorld.{IsSoundWorld, RwFits, rw_phase_at, rw_phase_if, rw_phase_of}
-use Rattle.lk_law.specs.RwPhase.{RwPhase, is_inner}
-use Rattle.lk_core.proofs.Walks.{IsOuter, NodesIn, outer_held}
-use Rattle.lk_core.proofs.Seated.{alike, seated, world-set_top, world-pop}
+use Rattle.lk_law.specs.{Premises.IsThen, Sound.RunsOne, SoundWorld.rw_phase_at}
 use Rattle.lk_core.proofs.Same.{Keeps, same_set_top, keeps_pop, handlers_pop, tops_pop, whole_kept}
 use Rattle.lk_core.proofs.Same.{whole_same, fits_kept}
+use Rattle.lk_core.proofs.Seated.{alike, seated, world-set_top, world-pop}
+use Rattle.lk_core.proofs.Walks.{IsOuter, NodesIn, outer_held}
 
 -- what stands after an operation has ended and before the next one begins: the acting frame d has
 -- no place, and holds what h holds, which goes on in its place

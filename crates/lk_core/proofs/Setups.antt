@@ -1,36 +1,25 @@
 -- No act changes the setup.
 use Rattle.std.proofs.Common.{◌≡◌, ℕ, Option, Some, None, Bool, true, false, List, [], ◌∷◌, refl}
-use Rattle.std.proofs.Common.{◌∙◌}
-use Rattle.std.specs.Prelude.{if◌then◌else◌}
-use Rattle.lk_names.specs.declared.names.LockName.{LockName}
-use Rattle.lk_word.specs.declared.spin_word.NodeName.{NodeName}
-use Rattle.lk_names.specs.declared.events.Act.{Act}
-use Rattle.lk_names.specs.declared.events.Act.TheVariants as act
-use Rattle.lk_rows.specs.declared.setup.Setup.{Setup}
-use Rattle.lk_rows.specs.declared.parts.Frame.{Frame}
-use Rattle.lk_rows.specs.declared.parts.Pc.{Pc}
-use Rattle.lk_rows.specs.Machine.{Machine, CpuState, LockState, word_at, node_at, queued_at}
-use Rattle.lk_rows.specs.Machine.{preempted_at, halted_at, top_frame, set_cpu, set_lock}
-use Rattle.lk_rows.specs.Machine.{set_entry, entry_at, kicked_at, set_counts, rw_at}
-use Rattle.lk_rows.specs.Row.{Lead, Counter, moved, counted}
-use Rattle.lk_rows.specs.rows.Spin.{spin_row}
-use Rattle.lk_rows.specs.rows.Queue.{queue_row, entry_row, flag_row, next_row}
-use Rattle.lk_rows.specs.TopRow.{Target, SpinWord, QueueWord, Queued, FlagOf, NextOf, ChoiceWord}
-use Rattle.lk_rows.specs.TopRow.{ChoiceFlag, ChoiceNext, SecondTailOf, RunsOf, PvWord, PvFlag}
-use Rattle.lk_rows.specs.TopRow.{PvNext, StateOf, HashEntry, Halted, KickOf, target, sight_at}
-use Rattle.lk_rows.specs.TopRow.{stored_second, stored_runs, stored_state, stored_entry}
-use Rattle.lk_rows.specs.TopRow.{stored_halted, stored_kicked, stored_word, stored_flag}
-use Rattle.lk_rows.specs.TopRow.{stored_next, stored_queued, row_on, row_at, row, RwWord}
-use Rattle.lk_rows.specs.TopRow.{stored_rw}
-use Rattle.lk_rows.specs.rows.Cna.{search_row, second_row, runs_row, handover_row, promotion_row}
-use Rattle.lk_rows.specs.rows.Pv.{pv_row, pv_flag_row, pv_next_row, state_row, hash_row}
-use Rattle.lk_rows.specs.rows.Pv.{halt_row, kick_row}
-use Rattle.lk_rows.specs.Acts.{idle, step_halted, step, next}
+use Rattle.std.proofs.Common.{◌∙◌, if◌then◌else◌}
+use Rattle.lk_core.proofs.Names.{NodeName, Act, LockName, idle, next, step, step_halted, CpuState}
+use Rattle.lk_core.proofs.Names.{LockState, Machine, top_frame, Counter, Lead, counted, moved}
+use Rattle.lk_core.proofs.Names.{ChoiceFlag, ChoiceNext, ChoiceWord, FlagOf, Halted, HashEntry}
+use Rattle.lk_core.proofs.Names.{KickOf, NextOf, PvFlag, PvNext, PvWord, QueueWord, Queued, RunsOf}
+use Rattle.lk_core.proofs.Names.{RwWord, SecondTailOf, SpinWord, StateOf, Target, row, row_at}
+use Rattle.lk_core.proofs.Names.{row_on, sight_at, stored_entry, stored_flag, stored_halted}
+use Rattle.lk_core.proofs.Names.{stored_kicked, stored_next, stored_queued, stored_runs, stored_rw}
+use Rattle.lk_core.proofs.Names.{stored_second, stored_state, stored_word, target, Frame, Pc, Setup}
+use Rattle.lk_core.proofs.Names.{handover_row, promotion_row, runs_row, search_row, second_row}
+use Rattle.lk_core.proofs.Names.{halt_row, hash_row, kick_row, pv_flag_row, pv_next_row, pv_row}
+use Rattle.lk_core.proofs.Names.{state_row, entry_row, flag_row, next_row, queue_row, rw_row}
+use Rattle.lk_core.proofs.Names.{spin_row}
+use Rattle.lk_rows.specs.Machine.{word_at, node_at, queued_at, preempted_at, halted_at, set_cpu}
+use Rattle.lk_rows.specs.Machine.{set_lock, set_entry, entry_at, kicked_at, set_counts, rw_at}
 use Rattle.lk_core.proofs.Parts.{part-moved, part-stored_word, part-stored_flag, part-stored_next}
 use Rattle.lk_core.proofs.Parts.{part-stored_second, part-stored_runs, part-stored_state}
 use Rattle.lk_core.proofs.Parts.{part-stored_entry, part-stored_halted, part-stored_kicked}
 use Rattle.lk_core.proofs.Parts.{part-stored_queued, part-step_halted, part-rest, part-stored_rw}
-use Rattle.lk_rows.specs.rows.Rw.{rw_row}
+use Rattle.lk_names.specs.declared.events.Act.TheVariants as act
 
 abbrev of : Machine → Setup
 of m = m.setup

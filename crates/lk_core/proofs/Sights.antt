@@ -1,19 +1,13 @@
 -- What a front sees of a machine is what it sees of the world that the machine is by look-up.
-use Rattle.std.proofs.Common.{◌≡◌, ◌≤◌, ◌<◌, ◌+◌, ℕ, zero, suc, Option, Some, None, false, List, [], ◌∷◌}
-use Rattle.std.proofs.Common.{arith, ap, refl, sym, ◌∙◌, length, slice_get, position, inl, inr}
-use Rattle.std.specs.Prelude.{unwrap_or, nat_lt}
-use Rattle.std.specs.List.{position_or_len}
-use Rattle.std.proofs.lemmas.Bool.{cases_Bool, cases_lt, cond-true, cond-false, lt-ltb, le-ltb}
-use Rattle.lk_names.specs.History.{LockHistory}
+use Rattle.std.proofs.Common.{◌≡◌, ◌≤◌, ◌<◌, ◌+◌, ℕ, zero, suc, Option, Some, None, false, List, []}
+use Rattle.std.proofs.Common.{◌∷◌, arith, ap, refl, sym, ◌∙◌, length, slice_get, position, inl, inr}
+use Rattle.std.proofs.Common.{nat_lt}
+use Rattle.std.proofs.lemmas.Bool.{cond-true, cond-false, lt-ltb, le-ltb}
+use Rattle.std.specs.{List.position_or_len, Prelude.unwrap_or}
+use Rattle.lk_core.proofs.Names.{cases_Bool, cases_lt, NodeName, LockHistory, LockName, Waiter}
+use Rattle.lk_core.proofs.Names.{Machine, is_node, node_of, sight_at, Frame, ShowsAll, world}
 use Rattle.lk_names.specs.Lawful.{is_local}
-use Rattle.lk_names.specs.declared.names.Waiter.{Waiter}
-use Rattle.lk_names.specs.declared.names.LockName.{LockName}
-use Rattle.lk_word.specs.declared.spin_word.NodeName.{NodeName}
-use Rattle.lk_rows.specs.declared.parts.Frame.{Frame}
-use Rattle.lk_rows.specs.Machine.{Machine, cpu_at, frame_at, node_at}
-use Rattle.lk_rows.specs.Moves.{is_node, node_of, context_of, waiter_of}
-use Rattle.lk_rows.specs.TopRow.{sight_at}
-use Rattle.lk_law.specs.Sound.{ShowsAll, world}
+use Rattle.lk_rows.specs.{Machine.{cpu_at, frame_at, node_at}, Moves.{context_of, waiter_of}}
 use Rattle.lk_law.specs.Steps.{has_own, first_user, waiter_in, sight_in}
 use Rattle.lk_core.proofs.Stands.{few_frames}
 

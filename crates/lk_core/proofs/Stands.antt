@@ -1,31 +1,16 @@
 -- How a frame at a row stands to the lock on which it acts.
 use Rattle.std.proofs.Common.{◌≡◌, inl, inr, Bool, ℕ, Option, Some, true, false, arith, ap, ◌<◌}
 use Rattle.std.proofs.Common.{None, ◌≤◌, refl, sym, ◌∙◌, length}
-use Rattle.std.proofs.lemmas.Bool.{cases_lt}
-use Rattle.std.proofs.lemmas.List.{get_or_past}
-use Rattle.std.proofs.lemmas.Option.{slice_get_past}
-use Rattle.lk_names.specs.History.{LockHistory}
-use Rattle.lk_names.specs.declared.names.Mode.{Mode}
-use Rattle.lk_names.specs.declared.names.LockName.{LockName}
-use Rattle.lk_rows.specs.declared.parts.Frame.{Frame}
-use Rattle.lk_rows.specs.declared.parts.Pc.{Pc}
-use Rattle.lk_rows.specs.declared.parts.Pc.TheVariants.{U5}
-use Rattle.lk_rows.specs.Machine.{Machine, cpu_at, depth_at, frame_at, no_cpu, top_of}
-use Rattle.lk_rows.specs.declared.setup.Verb.{Verb}
-use Rattle.lk_rows.specs.declared.setup.Verb.TheVariants.{Lock, Unlock}
-use Rattle.lk_rows.specs.TopRow.{row}
-use Rattle.lk_law.specs.RwPhase.{is_inner}
-use Rattle.lk_law.specs.RwPhase.RwPhase.{Away}
-use Rattle.lk_law.specs.Families.{is_rw_row}
-use Rattle.lk_law.specs.SoundWorld.{rw_phase_if, rw_phase_of}
-use Rattle.lk_law.specs.Premises.{IsNewest}
-use Rattle.lk_law.specs.Sound.{world, is_over, BelongsTo, ShowsAll, Footing, Spinning, Sharing}
-use Rattle.lk_law.specs.Sound.{Waiting, Freeing, Owing, RwBelongs}
-use Rattle.lk_core.proofs.Access.{above_top}
-use Rattle.lk_core.proofs.Walks.{IsOuter}
-use Rattle.lk_core.proofs.Leads.{IsAt, IsFreeing, SameHold}
+use Rattle.lk_core.proofs.Names.{cases_lt, get_or_past, slice_get_past, LockHistory, LockName, Mode}
+use Rattle.lk_core.proofs.Names.{Machine, no_cpu, top_of, row, Frame, Pc, U5, Verb, Lock, Unlock}
+use Rattle.lk_core.proofs.Names.{is_rw_row, IsNewest, is_inner, Away, BelongsTo, Footing, Freeing}
+use Rattle.lk_core.proofs.Names.{Owing, RwBelongs, Sharing, ShowsAll, Spinning, Waiting, is_over}
+use Rattle.lk_core.proofs.Names.{world, rw_phase_if, rw_phase_of}
+use Rattle.lk_rows.specs.Machine.{cpu_at, depth_at, frame_at}
+use Rattle.lk_core.proofs.{Access.above_top, Leads.{IsAt, IsFreeing, SameHold}}
 use Rattle.lk_core.proofs.RowParts.{freeing_release, freeing_waits, lock_taking, not_owing}
 use Rattle.lk_core.proofs.RowParts.{outer_plain, outer_waits, over_here, spin_row_of}
+use Rattle.lk_core.proofs.Walks.{IsOuter}
 
 -- how a frame at a row stands: at a row of V of a spinlock or a wait lock; with a lock that it has
 -- freed, owing a kick; or at a row of a reader or a writer

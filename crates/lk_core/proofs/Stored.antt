@@ -1,31 +1,16 @@
 -- A node that a row takes from a register and stores, in a word or in the hash, is the machine's.
-use Rattle.std.proofs.Common.{◌≡◌, ◌<◌, ◌≤◌, ℕ, Option, Some, None, arith, sym}
-use Rattle.std.proofs.Common.{refl, subst, length}
-use Rattle.lk_names.specs.History.{LockHistory}
-use Rattle.lk_names.specs.declared.names.Waiter.{Waiter}
-use Rattle.lk_names.specs.declared.names.LockName.{LockName}
-use Rattle.lk_word.specs.declared.spin_word.NodeName.{NodeName}
-use Rattle.lk_word.specs.declared.spin_word.Layout.{Layout}
-use Rattle.lk_word.specs.declared.spin_word.Layout.TheVariants.{Narrow}
-use Rattle.lk_word.specs.SpinWord.{IsTailInRange}
+use Rattle.std.proofs.Common.{◌≡◌, ◌<◌, ◌≤◌, ℕ, Option, Some, None, arith, sym, refl, subst, length}
+use Rattle.lk_core.proofs.Names.{NodeName, LockHistory, LockName, Waiter, HasNode, Machine, node_of}
+use Rattle.lk_core.proofs.Names.{Frame, Pc, C10, E6, G4, K3, named_front_is_used, IsOwnNode, Uses}
+use Rattle.lk_core.proofs.Names.{ShowsAll, world, spin_part}
 use Rattle.lk_word.proofs.SpinWordLemmas.{from_narrow}
-use Rattle.lk_rows.specs.declared.parts.Frame.{Frame}
-use Rattle.lk_rows.specs.declared.parts.Pc.{Pc}
-use Rattle.lk_rows.specs.declared.parts.Pc.TheVariants.{G4, C10, E6, K3}
-use Rattle.lk_rows.specs.Machine.{Machine, frame_at, HasNode}
-use Rattle.lk_rows.specs.Moves.{node_of}
-use Rattle.lk_rows.specs.Layouts.{layout_of}
+use Rattle.lk_word.specs.{SpinWord.IsTailInRange, declared.spin_word.Layout.Layout}
+use Rattle.lk_word.specs.declared.spin_word.Layout.TheVariants.{Narrow}
+use Rattle.lk_rows.specs.{Layouts.layout_of, Machine.frame_at}
 use Rattle.lk_machine.specs.Ready.{stored_name}
-use Rattle.lk_law.specs.Premises.{Uses}
-use Rattle.lk_law.specs.Known.{IsOwnNode}
-use Rattle.lk_law.specs.SoundWorld.{spin_part}
-use Rattle.lk_law.specs.Sound.{ShowsAll, world}
-use Rattle.lk_law.proofs.common.Knows.{named_front_is_used}
+use Rattle.lk_law.proofs.{cna.Front.owner_tail, cna.Knows.{at_front, lists, phase_here, stage_here}}
 use Rattle.lk_law.proofs.common.Users.{user_of, own_node}
-use Rattle.lk_law.proofs.cna.Front.{owner_tail}
-use Rattle.lk_law.proofs.cna.Knows.{at_front, lists, phase_here, stage_here}
-use Rattle.lk_core.proofs.Access.{frame_within}
-use Rattle.lk_core.proofs.Reach.{own_here}
+use Rattle.lk_core.proofs.{Access.frame_within, Reach.own_here}
 
 module _ (m : Machine) (hs : LockName → LockHistory) (shows : ShowsAll m hs) (w : Waiter)
     (f : Frame) (live : frame_at m w ≡ Some f) where

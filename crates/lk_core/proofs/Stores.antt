@@ -1,31 +1,22 @@
 -- What a row stores: the machine after it as a world, before the frame moves.
 use Rattle.std.proofs.Common.{◌≡◌, ℕ, Bool, Option, Some, None, List, [], ◌∷◌, ◌<◌, refl, ◌∙◌}
 use Rattle.std.proofs.Common.{length}
-use Rattle.lk_names.specs.declared.names.Waiter.{Waiter}
-use Rattle.lk_word.specs.declared.spin_word.NodeName.{NodeName}
-use Rattle.lk_word.specs.declared.spin_word.Fields.{Fields}
-use Rattle.lk_rows.specs.declared.parts.Flag.{Flag}
-use Rattle.lk_rows.specs.declared.parts.State.{State}
-use Rattle.lk_names.specs.declared.names.LockName.{LockName}
-use Rattle.lk_rows.specs.declared.parts.Frame.{Frame}
-use Rattle.lk_rows.specs.Machine.{Machine, cpu_at, frame_at, node_at, set_counts, HasNode}
-use Rattle.lk_rows.specs.Row.{Counter, counted, count_all}
-use Rattle.lk_rows.specs.TopRow.{stored_word, stored_flag, stored_next, stored_second}
-use Rattle.lk_rows.specs.TopRow.{stored_runs, stored_state, stored_entry, stored_halted}
-use Rattle.lk_rows.specs.TopRow.{stored_kicked, stored_queued}
-use Rattle.lk_law.specs.World.{World}
+use Rattle.lk_core.proofs.Names.{Fields, NodeName, LockName, Waiter, HasNode, Machine, Counter}
+use Rattle.lk_core.proofs.Names.{counted, stored_entry, stored_flag, stored_halted, stored_kicked}
+use Rattle.lk_core.proofs.Names.{stored_next, stored_queued, stored_runs, stored_second}
+use Rattle.lk_core.proofs.Names.{stored_state, stored_word, Flag, Frame, State, world, World}
+use Rattle.lk_rows.specs.{Machine.{cpu_at, frame_at, node_at, set_counts}, Row.count_all}
 use Rattle.lk_law.specs.Steps.{stores_word, stores_flag, stores_next, stores_second, stores_runs}
 use Rattle.lk_law.specs.Steps.{stores_state, stores_entry, stores_halted, stores_kicked}
 use Rattle.lk_law.specs.Steps.{stores_queued}
-use Rattle.lk_law.specs.Sound.{world}
+use Rattle.lk_core.proofs.Same.{KeepsFrames, same_then, same_self, same_set_word, same_set_node}
+use Rattle.lk_core.proofs.Same.{same_set_queued, same_set_counts, same_set_entry, same_set_halted}
+use Rattle.lk_core.proofs.Same.{same_set_kicked}
 use Rattle.lk_core.proofs.Worlds.{world-set_word, world-set_node, world-set_queued}
 use Rattle.lk_core.proofs.Worlds.{world-set_counts, world-set_entry, world-set_halted}
 use Rattle.lk_core.proofs.Worlds.{world-set_kicked, frame-set_entry, frame-set_halted}
 use Rattle.lk_core.proofs.Worlds.{frame-set_kicked, frame-set_word, frame-set_node}
 use Rattle.lk_core.proofs.Worlds.{frame-set_queued, frame-set_counts}
-use Rattle.lk_core.proofs.Same.{KeepsFrames, same_then, same_self, same_set_word, same_set_node}
-use Rattle.lk_core.proofs.Same.{same_set_queued, same_set_counts, same_set_entry, same_set_halted}
-use Rattle.lk_core.proofs.Same.{same_set_kicked}
 
 -- The machine n is m after a store, or a count: it is this world, with the frames of m.
 pub record Stored (m n : Machine) (x : World) : Type 0 where

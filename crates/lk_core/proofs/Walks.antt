@@ -2,36 +2,17 @@
 -- operation, so that the hold after it is the walk's.
 use Rattle.std.proofs.Common.{◌≡◌, ◌≢◌, ℕ, suc, Option, Some, None, Bool, true, false, List, []}
 use Rattle.std.proofs.Common.{◌∷◌, inl, inr, arith, ap, ◌≤◌, ◌+◌, refl, sym, ◌∙◌, subst, slice_get}
-use Rattle.std.proofs.Common.{length, drop}
-use Rattle.std.specs.Prelude.{if◌then◌else◌, ◌==◌, ◌&&◌}
-use Rattle.std.proofs.lemmas.Bool.{cases_Bool, cases_eq, eq-eqb, ne_eqb}
+use Rattle.std.proofs.Common.{length, drop, if◌then◌else◌, ◌==◌, ◌&&◌}
 use Rattle.std.proofs.lemmas.List.{length-drop}
-use Rattle.std.proofs.lemmas.Option.{slice_get_within, same_Some, none-some}
-use Rattle.lk_names.specs.Names.{same_lock}
-use Rattle.lk_names.specs.declared.holder.Manner.{Manner}
-use Rattle.lk_names.specs.declared.holder.Manner.TheVariants.{Spins}
-use Rattle.lk_names.specs.declared.names.Kind.{Kind}
-use Rattle.lk_names.specs.declared.names.Mode.{Mode}
-use Rattle.lk_names.specs.declared.names.Mode.TheVariants.{Pv}
-use Rattle.lk_names.specs.declared.names.LockName.{LockName}
-use Rattle.lk_word.specs.declared.spin_word.NodeName.{NodeName}
-use Rattle.lk_rows.specs.declared.setup.Op.{Op}
-use Rattle.lk_rows.specs.declared.setup.Verb.{Verb}
-use Rattle.lk_rows.specs.declared.setup.Verb.TheVariants.{Unlock}
-use Rattle.lk_rows.specs.declared.parts.Pc.TheVariants.{U5}
-use Rattle.lk_rows.specs.declared.parts.Frame.{Frame}
-use Rattle.lk_rows.specs.Programs.{IsLawfulProgram, way_at, op_way, way_after, is_try}
-use Rattle.lk_rows.specs.Programs.{is_release, to_release}
-use Rattle.lk_rows.specs.Row.{Change, Prev, TargetIs, with_change, changed_all, Lead, Goes}
-use Rattle.lk_rows.specs.Row.{Enters}
-use Rattle.lk_rows.specs.Row.{Granted, Freed, Missed, Done, TakesWait, Leaves, Yields}
-use Rattle.lk_rows.specs.Moves.{rw_name, wait_name}
-use Rattle.lk_law.specs.Sound.{held_in, BelongsTo, held_idle, is_over}
-use Rattle.lk_law.specs.RwPhase.{is_inner}
-use Rattle.lk_law.specs.SoundWorld.{rw_phase_of}
-use Rattle.lk_law.proofs.common.Cases.{lock_cases}
-use Rattle.lk_law.proofs.common.Sames.{same_lock-self}
-use Rattle.lk_law.proofs.common.Puts.{same_lock-else, if-true}
+use Rattle.lk_core.proofs.Names.{cases_Bool, cases_eq, eq-eqb, ne_eqb, none-some, same_Some}
+use Rattle.lk_core.proofs.Names.{slice_get_within, NodeName, same_lock, Manner, Spins, Kind}
+use Rattle.lk_core.proofs.Names.{LockName, Mode, Pv, rw_name, wait_name, is_try, way_after, way_at}
+use Rattle.lk_core.proofs.Names.{Change, Done, Enters, Freed, Goes, Granted, Lead, Leaves, Missed}
+use Rattle.lk_core.proofs.Names.{Prev, TakesWait, TargetIs, Yields, changed_all, Frame, U5, Op}
+use Rattle.lk_core.proofs.Names.{Verb, Unlock, lock_cases, if-true, same_lock-else, same_lock-self}
+use Rattle.lk_core.proofs.Names.{is_inner, BelongsTo, held_idle, held_in, is_over, rw_phase_of}
+use Rattle.lk_rows.specs.Programs.{IsLawfulProgram, op_way, is_release, to_release}
+use Rattle.lk_rows.specs.Row.{with_change}
 use Rattle.lk_law.proofs.common.HeldAfter.{way_next}
 
 to_release-le : (os : List Op) (i : ℕ) → to_release os i ≤ length os

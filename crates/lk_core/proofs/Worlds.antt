@@ -1,37 +1,25 @@
 -- A machine as a world after each write.
-use Rattle.std.proofs.Common.{◌≡◌, ◌≢◌, ℕ, Option, Some, None, Bool, true, false, List}
-use Rattle.std.proofs.Common.{inl, inr, arith, ap, ◌<◌, refl, sym, ◌∙◌, subst, length, get_or}
-use Rattle.std.proofs.Common.{set}
-use Rattle.std.specs.Prelude.{if◌then◌else◌, ◌==◌, slice_index_or}
-use Rattle.std.proofs.lemmas.Bool.{cases_eq, cases_lt, eq-eqb, ne_eqb}
+use Rattle.std.proofs.Common.{◌≡◌, ◌≢◌, ℕ, Option, Some, None, Bool, true, false, List, inl, inr}
+use Rattle.std.proofs.Common.{arith, ap, ◌<◌, refl, sym, ◌∙◌, subst, length, get_or, set}
+use Rattle.std.proofs.Common.{if◌then◌else◌, ◌==◌, slice_index_or}
 use Rattle.std.proofs.lemmas.List.{get_or-set_same, get_or-set_other, set_past}
-use Rattle.lk_names.specs.Names.{same_lock}
-use Rattle.lk_names.specs.declared.names.Kind.TheVariants.{Spin}
-use Rattle.lk_names.specs.declared.names.Waiter.{Waiter}
-use Rattle.lk_names.specs.declared.names.LockName.{LockName}
-use Rattle.lk_word.specs.declared.spin_word.NodeName.{NodeName}
-use Rattle.lk_word.specs.declared.spin_word.Fields.{Fields}
-use Rattle.lk_rows.specs.declared.setup.Setup.{Setup}
-use Rattle.lk_rows.specs.declared.parts.Frame.{Frame}
-use Rattle.lk_rows.specs.declared.parts.Node.{Node}
-use Rattle.lk_rows.specs.declared.parts.Counts.{Counts}
-use Rattle.lk_rows.specs.Machine.{Machine, CpuState, LockState, rest_lock, cpu_at, lock_at}
-use Rattle.lk_rows.specs.Machine.{word_at, rw_at, node_at, frame_at, queued_at, entry_at}
-use Rattle.lk_rows.specs.Machine.{halted_at, kicked_at, set_cpu, set_lock, set_counts, set_word}
-use Rattle.lk_rows.specs.Machine.{set_node, set_queued, set_halted, set_kicked, set_entry}
-use Rattle.lk_rows.specs.Machine.{with_entry, without_entry, rest_node, HasNode}
-use Rattle.lk_law.specs.Steps.{put_word, put_node, put_queued, put_entry, put_halted, put_kicked}
+use Rattle.lk_core.proofs.Names.{cases_eq, cases_lt, eq-eqb, ne_eqb, Fields, NodeName, same_lock}
+use Rattle.lk_core.proofs.Names.{Spin, LockName, Waiter, CpuState, HasNode, LockState, Machine}
+use Rattle.lk_core.proofs.Names.{rest_lock, rest_node, with_entry, without_entry, Counts, Frame}
+use Rattle.lk_core.proofs.Names.{Node, Setup, held_at, world, put_queued}
+use Rattle.lk_rows.specs.Machine.{cpu_at, lock_at, word_at, rw_at, node_at, frame_at, queued_at}
+use Rattle.lk_rows.specs.Machine.{entry_at, halted_at, kicked_at, set_cpu, set_lock, set_counts}
+use Rattle.lk_rows.specs.Machine.{set_word, set_node, set_queued, set_halted, set_kicked, set_entry}
+use Rattle.lk_law.proofs.{common.Cases.node_cases, common.Puts.{same_node-self, same_node-else}}
 use Rattle.lk_law.specs.Snapshot.{same_node}
-use Rattle.lk_law.specs.Sound.{world, held_at}
-use Rattle.lk_law.proofs.common.Cases.{node_cases}
-use Rattle.lk_law.proofs.common.Puts.{same_node-self, same_node-else}
-use Rattle.lk_core.proofs.Entries.{Entry, entered_now, removed_now}
+use Rattle.lk_law.specs.Steps.{put_word, put_node, put_entry, put_halted, put_kicked}
 use Rattle.lk_core.proofs.Access.{cpu_same, cpu_other, word_set_word}
+use Rattle.lk_core.proofs.Entries.{Entry, entered_now, removed_now}
 use Rattle.lk_core.proofs.Seated.{alike, entry-set_cpu, frame-set_cpu, halted-set_cpu}
 use Rattle.lk_core.proofs.Seated.{held-set_counts, held-set_cpu, held-set_lock, kicked-set_cpu}
 use Rattle.lk_core.proofs.Seated.{kind-set_cpu, mode-set_cpu, node-set_cpu, queued-set_cpu}
-use Rattle.lk_core.proofs.Seated.{rw-set_cpu, format-set_cpu, sockets-set_cpu, threshold-set_cpu, turns-set_cpu}
-use Rattle.lk_core.proofs.Seated.{word-set_cpu}
+use Rattle.lk_core.proofs.Seated.{rw-set_cpu, format-set_cpu, sockets-set_cpu, threshold-set_cpu}
+use Rattle.lk_core.proofs.Seated.{turns-set_cpu, word-set_cpu}
 
 queued_changed : (m : Machine) (p : ℕ) (c : CpuState) → p < length m.cpus → (q : ℕ)
     → queued_at (set_cpu m p c) q ≡ (if q == p then c.queued else queued_at m q)

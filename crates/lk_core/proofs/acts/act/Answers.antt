@@ -1,7 +1,7 @@
 use Rattle.std.proofs.Common.{ap, sym, ◌∙◌}
-use Rattle.lk_names.specs.declared.events.Act.TheVariants as act
-use Rattle.lk_rows.specs.Row.{Answer}
+use Rattle.lk_core.proofs.Names.{Answer}
 use Rattle.lk_core.proofs.ActDone.{act_done, preempt_is, resume_is}
+use Rattle.lk_names.specs.declared.events.Act.TheVariants as act
 use Rattle.lk_core.proofs.acts.act.Goals as goal
 
 pub returns-in-Step : goal.returns-in-Step

@@ -1,9 +1,7 @@
 use Rattle.std.proofs.Common.{◌<◌, ap, sym, ◌∙◌, subst, arith}
-use Rattle.lk_rows.specs.Acts.{handler_frame}
-use Rattle.lk_rows.specs.Machine.{Machine, HasTop, depth_at, handlers_at, push}
-use Rattle.lk_rows.specs.Moves.{settled}
-use Rattle.lk_rows.specs.Programs.{HasPrograms, handlers_of}
-use Rattle.lk_rows.specs.Row.{Answer}
+use Rattle.lk_core.proofs.Names.{handler_frame, HasTop, Machine, settled, HasPrograms, handlers_of}
+use Rattle.lk_core.proofs.Names.{Answer}
+use Rattle.lk_rows.specs.Machine.{depth_at, handlers_at, push}
 use Rattle.lk_core.proofs.ActDone.{has_top, at_most, awake_top, awake_programs, awake_room}
 use Rattle.lk_core.proofs.ActDone.{awake_left, interrupt_is}
 use Rattle.lk_core.proofs.acts.interrupt.Goals as goal

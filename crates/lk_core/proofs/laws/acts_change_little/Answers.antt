@@ -1,5 +1,4 @@
-use Rattle.lk_core.proofs.Setups.{setup_kept}
-use Rattle.lk_core.proofs.CountsKept.{counts_within}
+use Rattle.lk_core.proofs.{CountsKept.counts_within, Setups.setup_kept}
 use Rattle.lk_core.proofs.laws.acts_change_little.Goals as goal
 
 pub returns : goal.returns
