@@ -1,37 +1,19 @@
 -- What an act of a family in which no processor halts does to the frames of a machine, and what it tells.
-use Rattle.std.proofs.Common.{◌≡◌, ◌≢◌, inl, inr, ℕ, ◌<◌, ◌-◌, Option, Some, None, Bool, true, false}
-use Rattle.std.proofs.Common.{refl, sym, ap, ◌∙◌, subst, arith, length}
-use Rattle.std.proofs.lemmas.Bool.{cases_Bool, or_parts, leb-false}
-use Rattle.std.specs.Prelude.{if◌then◌else◌, ◌&&◌, ◌||◌, not, nat_le}
-use Rattle.lk_names.specs.Names.{same_waiter}
-use Rattle.lk_names.specs.History.{LockHistory}
-use Rattle.lk_names.specs.declared.names.Mode.{Mode}
-use Rattle.lk_names.specs.declared.names.Waiter.{Waiter}
-use Rattle.lk_names.specs.declared.names.LockName.{LockName}
-use Rattle.lk_names.specs.declared.events.Act.{Act}
-use Rattle.lk_names.specs.declared.events.Act.TheVariants as act
-use Rattle.lk_names.specs.declared.events.What.TheVariants.{Int}
-use Rattle.lk_rows.specs.declared.parts.Frame.{Frame}
-use Rattle.lk_rows.specs.declared.parts.Pc.{Pc}
-use Rattle.lk_rows.specs.Acts.{next, idle, step_halted, processor_of, is_shut, interrupted, nudged, woken}
-use Rattle.lk_rows.specs.Acts.{handler_frame, stands_halting}
-use Rattle.lk_rows.specs.Machine.{Machine, HasTop, top_of, top_frame, preempted_at, halted_at, frame_at, set_preempted}
-use Rattle.lk_rows.specs.Machine.{push, depth_at, handlers_at}
-use Rattle.lk_rows.specs.Moves.{settled}
-use Rattle.lk_rows.specs.Programs.{handlers_of}
-use Rattle.lk_rows.specs.Row.{Answer}
-use Rattle.lk_rows.specs.TopRow.{row, row_at}
-use Rattle.lk_law.specs.Agree.{halts}
-use Rattle.lk_law.specs.Sound.{world, ShowsAll}
-use Rattle.lk_law.specs.SoundWorld.{spin_part}
-use Rattle.lk_law.specs.World.{World}
-use Rattle.lk_law.proofs.common.Knows.{nobody_halts}
-use Rattle.lk_law.proofs.common.Puts.{same_waiter-else}
-use Rattle.lk_law.proofs.common.Sames.{same_waiter-self}
-use Rattle.lk_core.proofs.Access.{above_top}
-use Rattle.lk_core.proofs.Same.{tops_push, depth_push}
-use Rattle.lk_core.proofs.Seated.{next_of, world-push, world-set_preempted}
+use Rattle.std.proofs.Common.{◌≡◌, ◌≢◌, inl, inr, ℕ, ◌<◌, ◌-◌, Option, Some, None, Bool, true}
+use Rattle.std.proofs.Common.{false, refl, sym, ap, ◌∙◌, subst, arith, length, if◌then◌else◌, ◌&&◌}
+use Rattle.std.proofs.Common.{◌||◌, not, nat_le}
+use Rattle.lk_progress.proofs.Names.{cases_Bool, leb-false, or_parts, LockHistory, same_waiter, Act}
+use Rattle.lk_progress.proofs.Names.{Int, LockName, Mode, Waiter, handler_frame, idle, is_shut}
+use Rattle.lk_progress.proofs.Names.{next, nudged, processor_of, stands_halting, step_halted, woken}
+use Rattle.lk_progress.proofs.Names.{HasTop, Machine, halted_at, handlers_at, push, set_preempted}
+use Rattle.lk_progress.proofs.Names.{top_frame, top_of, settled, handlers_of, Answer, row, row_at}
+use Rattle.lk_progress.proofs.Names.{Frame, Pc, nobody_halts, same_waiter-else, same_waiter-self}
+use Rattle.lk_progress.proofs.Names.{halts, ShowsAll, world, spin_part, World, above_top}
+use Rattle.lk_progress.proofs.Names.{depth_push, tops_push, next_of, world-push}
+use Rattle.lk_progress.proofs.Names.{world-set_preempted}
+use Rattle.lk_rows.specs.{Acts.interrupted, Machine.{preempted_at, frame_at, depth_at}}
 use Rattle.lk_progress.proofs.Moves.{Settles, Settled, settled_is}
+use Rattle.lk_names.specs.declared.events.Act.TheVariants as act
 
 -- what an act does, of which the answer is this
 pub data Acted (m : Machine) (x : Answer) : Type 0 where

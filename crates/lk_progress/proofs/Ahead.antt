@@ -1,24 +1,16 @@
 -- What an event makes of the place of a waiter in a queue, and of the takes that it may still see.
-use Rattle.std.proofs.Common.{◌≡◌, ◌≢◌, ◌⊎◌, inl, inr, ℕ, zero, suc, ◌<◌, ◌≤◌, ◌+◌, Option, Some, None, Bool, false}
-use Rattle.std.proofs.Common.{refl, sym, ap, ◌∙◌, subst, arith, List, [], ◌∷◌, ◌++◌, slice_get, drop, take}
-use Rattle.std.specs.Prelude.{Contains, slice_index_or, if◌then◌else◌, ◌-◌}
-use Rattle.lk_names.specs.History.{LockHistory, changed, without}
-use Rattle.lk_names.specs.Lawful.{Holds, HoldsSo, Rules, InOrder, OwnsUp, lawful_moves}
-use Rattle.lk_names.specs.declared.holder.Holder.{Holder}
-use Rattle.lk_names.specs.declared.holder.Manner.{Manner}
-use Rattle.lk_names.specs.declared.holder.Manner.TheVariants.{Spins, Reads, Writes}
-use Rattle.lk_names.specs.declared.names.Mode.{Mode}
-use Rattle.lk_names.specs.declared.names.Mode.TheVariants.{Virt, Native, Cna, Pv}
-use Rattle.lk_names.specs.declared.names.Waiter.{Waiter}
-use Rattle.lk_names.specs.declared.names.LockName.{LockName}
-use Rattle.lk_names.specs.declared.events.How.{How}
-use Rattle.lk_names.specs.declared.events.What.{What}
-use Rattle.lk_names.specs.declared.events.What.TheVariants.{Take, Miss, Release, Kick, Arrive, Pass, Flush, Promote, Leave}
-use Rattle.lk_names.specs.declared.events.What.TheVariants.{Halt, Wake, Int, Nudge, RTake, RRelease, WTake, WRelease}
-use Rattle.lk_names.proofs.ByIndex.{get-append_old, get-drop_one}
+use Rattle.std.proofs.Common.{◌≡◌, ◌≢◌, ◌⊎◌, inl, inr, ℕ, zero, suc, ◌<◌, ◌≤◌, ◌+◌, Option, Some}
+use Rattle.std.proofs.Common.{None, Bool, false, refl, sym, ap, ◌∙◌, subst, arith, List, [], ◌∷◌}
+use Rattle.std.proofs.Common.{◌++◌, slice_get, drop, take, Contains, slice_index_or, if◌then◌else◌}
+use Rattle.std.proofs.Common.{◌-◌}
+use Rattle.lk_progress.proofs.Names.{get-append_old, get-drop_one, LockHistory, changed, Holds}
+use Rattle.lk_progress.proofs.Names.{InOrder, Rules, How, What, Arrive, Flush, Halt, Int, Kick}
+use Rattle.lk_progress.proofs.Names.{Leave, Miss, Nudge, Pass, Promote, RRelease, RTake, Release}
+use Rattle.lk_progress.proofs.Names.{Take, WRelease, WTake, Wake, Holder, Reads, Spins, LockName}
+use Rattle.lk_progress.proofs.Names.{Mode, Cna, Native, Pv, Virt, Waiter, sole, moves_aside}
+use Rattle.lk_names.specs.{History.without, Lawful.{HoldsSo, OwnsUp, lawful_moves}}
+use Rattle.lk_names.specs.{declared.holder.Manner.Manner, declared.holder.Manner.TheVariants.Writes}
 use Rattle.lk_abs.proofs.Sameness.{is_hold-refl}
-use Rattle.lk_law.specs.Agree.{sole}
-use Rattle.lk_law.specs.Cna.{moves_aside}
 
 -- one who holds a spinlock is its one holder
 pub sole_holds : (o : Option Waiter) (u : Waiter) (m : Manner) (hs : List Holder) → hs ≡ sole o

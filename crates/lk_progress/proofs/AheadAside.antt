@@ -1,20 +1,17 @@
 -- What an event makes of the place of a waiter where waiters are moved aside, and of the takes that it may
 -- still see.
-use Rattle.std.proofs.Common.{◌≡◌, ◌≢◌, ◌⊎◌, inl, inr, ℕ, zero, suc, ◌<◌, ◌≤◌, ◌+◌, ◌-◌, ◌*◌, Option, Some, Bool}
-use Rattle.std.proofs.Common.{refl, sym, ap, ◌∙◌, subst, arith, List, [], ◌∷◌, ◌++◌, length, slice_get, drop, take, replicate, length-append}
-use Rattle.std.proofs.lemmas.Bool.{cases_lt}
-use Rattle.std.specs.Prelude.{Contains, if◌then◌else◌, map}
-use Rattle.lk_names.specs.History.{LockHistory, changed, without}
-use Rattle.lk_names.specs.Lawful.{Holds, Rules, InOrder, OwnsUp}
-use Rattle.lk_names.specs.declared.holder.Holder.{Holder}
-use Rattle.lk_names.specs.declared.holder.Manner.TheVariants.{Spins, Reads, Writes}
-use Rattle.lk_names.specs.declared.names.Waiter.{Waiter}
-use Rattle.lk_names.specs.declared.events.What.{What}
-use Rattle.lk_names.specs.declared.events.What.TheVariants.{Take, Miss, Release, Kick, Arrive, Pass, Flush, Promote, Leave}
-use Rattle.lk_names.specs.declared.events.What.TheVariants.{Halt, Wake, Int, Nudge, RTake, RRelease, WTake, WRelease}
-use Rattle.lk_names.proofs.ByIndex.{get-append_old, get-drop_one}
+use Rattle.std.proofs.Common.{◌≡◌, ◌≢◌, ◌⊎◌, inl, inr, ℕ, zero, suc, ◌<◌, ◌≤◌, ◌+◌, ◌-◌, ◌*◌}
+use Rattle.std.proofs.Common.{Option, Some, Bool, refl, sym, ap, ◌∙◌, subst, arith, List, [], ◌∷◌}
+use Rattle.std.proofs.Common.{◌++◌, length, slice_get, drop, take, replicate, length-append}
+use Rattle.std.proofs.Common.{Contains, if◌then◌else◌, map}
+use Rattle.lk_progress.proofs.Names.{cases_lt, get-append_old, get-drop_one, LockHistory, changed}
+use Rattle.lk_progress.proofs.Names.{Holds, InOrder, Rules, What, Arrive, Flush, Halt, Int, Kick}
+use Rattle.lk_progress.proofs.Names.{Leave, Miss, Nudge, Pass, Promote, RRelease, RTake, Release}
+use Rattle.lk_progress.proofs.Names.{Take, WRelease, WTake, Wake, Holder, Reads, Spins, Waiter}
+use Rattle.lk_progress.proofs.Names.{sole}
+use Rattle.lk_names.specs.{History.without, Lawful.OwnsUp}
+use Rattle.lk_names.specs.declared.holder.Manner.TheVariants.{Writes}
 use Rattle.lk_abs.proofs.Sameness.{is_hold-refl}
-use Rattle.lk_law.specs.Agree.{sole}
 use Rattle.lk_law.proofs.cna.Joined.{get-drop, get-join_left, get-join_right}
 use Rattle.lk_progress.proofs.Ahead.{FrontHolds, sole_holds, holds_sole, one_more, same_sole}
 

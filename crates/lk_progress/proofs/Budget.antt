@@ -1,49 +1,29 @@
 -- Every act lowers the price that changes something and leads somebody on.
-use Rattle.std.proofs.Common.{◌≡◌, ◌≢◌, ◌⊎◌, inl, inr, ℕ, ◌<◌, ◌≤◌, ◌+◌, ◌-◌, ◌*◌, Option, Some, None, Bool}
-use Rattle.std.proofs.Common.{true, false, refl, sym, ap, ◌∙◌, subst, arith, List, [], ◌∷◌, length}
-use Rattle.std.proofs.lemmas.Bool.{cases_Bool, cases_lt, or_parts, leb-false}
-use Rattle.std.specs.Prelude.{if◌then◌else◌, ◌||◌, ◌&&◌, not, nat_le, nat_lt}
-use Rattle.lk_names.specs.Names.{same_waiter}
-use Rattle.lk_names.specs.History.{LockHistory, history_of}
-use Rattle.lk_names.specs.declared.names.Mode.{Mode}
-use Rattle.lk_names.specs.declared.names.Waiter.{Waiter}
-use Rattle.lk_names.specs.declared.names.LockName.{LockName}
-use Rattle.lk_names.specs.declared.events.Act.{Act}
-use Rattle.lk_names.specs.declared.events.Event.{Event}
-use Rattle.lk_names.specs.declared.events.Act.TheVariants as act
-use Rattle.lk_rows.specs.declared.setup.Setup.{Setup}
-use Rattle.lk_rows.specs.declared.parts.Frame.{Frame}
-use Rattle.lk_rows.specs.Machine.{Machine, frame_at, top_of, top_frame, preempted_at, halted_at, handlers_at, depth_at, HasTop}
-use Rattle.lk_rows.specs.Machine.{set_preempted, push}
-use Rattle.lk_rows.specs.Moves.{started, settled}
-use Rattle.lk_rows.specs.Programs.{handlers_of, program_at}
-use Rattle.lk_rows.specs.TopRow.{row}
-use Rattle.lk_rows.specs.Acts.{next, idle, step_halted, processor_of, is_shut, handler_frame, stands_halting, woken}
-use Rattle.lk_law.specs.Agree.{halts}
-use Rattle.lk_law.specs.Cna.{moves_aside}
-use Rattle.lk_law.specs.Kicked.{with_event}
-use Rattle.lk_law.specs.MachineLaws.{ShowsLawful}
-use Rattle.lk_law.specs.Sound.{ShowsAll, world}
-use Rattle.lk_law.specs.SoundWorld.{spin_part}
-use Rattle.lk_law.specs.World.{World}
-use Rattle.lk_law.proofs.common.Knows.{nobody_halts}
-use Rattle.lk_law.proofs.common.Puts.{same_waiter-else}
-use Rattle.lk_law.proofs.common.Sames.{same_waiter-self}
-use Rattle.lk_core.proofs.Access.{above_top}
-use Rattle.lk_core.proofs.ActKept.{act_kept}
-use Rattle.lk_core.proofs.Runs.{acts_keep}
-use Rattle.lk_core.proofs.Same.{tops_push, depth_push, handlers_push, handlers_push_other, same_set_preempted}
-use Rattle.lk_core.proofs.Seated.{next_of, world-push, world-set_preempted}
-use Rattle.lk_core.proofs.Setups.{setup_kept}
-use Rattle.lk_progress.specs.Measure.{left_in, most_rows, turn_of}
-use Rattle.lk_progress.specs.Potential.{weight_of, sum_below, cpu_weight, pending_weight, budget, is_pause}
-use Rattle.lk_progress.specs.Potential.{cpu_turns, turns, most_turns, cost, price, TurnIsMade, LeadsNobodyOn, PriceFalls, HasChanges}
-use Rattle.lk_progress.specs.Potential.{ActsLower, RunsAreShort}
-use Rattle.lk_progress.proofs.Descends.{begin_is_short}
-use Rattle.lk_progress.proofs.Moves.{Settles, Settled, settled_is}
+use Rattle.std.proofs.Common.{◌≡◌, ◌≢◌, ◌⊎◌, inl, inr, ℕ, ◌<◌, ◌≤◌, ◌+◌, ◌-◌, ◌*◌, Option, Some}
+use Rattle.std.proofs.Common.{None, Bool, true, false, refl, sym, ap, ◌∙◌, subst, arith, List, []}
+use Rattle.std.proofs.Common.{◌∷◌, length, if◌then◌else◌, ◌||◌, ◌&&◌, not, nat_le, nat_lt}
+use Rattle.lk_progress.proofs.Names.{cases_Bool, cases_lt, leb-false, or_parts, LockHistory}
+use Rattle.lk_progress.proofs.Names.{history_of, same_waiter, Act, Event, LockName, Mode, Waiter}
+use Rattle.lk_progress.proofs.Names.{handler_frame, idle, is_shut, next, processor_of}
+use Rattle.lk_progress.proofs.Names.{stands_halting, step_halted, woken, HasTop, Machine, halted_at}
+use Rattle.lk_progress.proofs.Names.{handlers_at, push, set_preempted, top_frame, top_of, settled}
+use Rattle.lk_progress.proofs.Names.{started, handlers_of, program_at, row, Frame, Setup}
+use Rattle.lk_progress.proofs.Names.{nobody_halts, same_waiter-else, same_waiter-self, halts}
+use Rattle.lk_progress.proofs.Names.{moves_aside, with_event, ShowsLawful, ShowsAll, world}
+use Rattle.lk_progress.proofs.Names.{spin_part, World, above_top, act_kept, acts_keep, depth_push}
+use Rattle.lk_progress.proofs.Names.{tops_push, next_of, world-push, world-set_preempted}
+use Rattle.lk_progress.proofs.Names.{setup_kept, left_in, turn_of, cpu_turns, is_pause, price}
+use Rattle.lk_progress.proofs.Names.{sum_below, turns}
+use Rattle.lk_rows.specs.Machine.{frame_at, preempted_at, depth_at}
+use Rattle.lk_core.proofs.Same.{handlers_push, handlers_push_other, same_set_preempted}
+use Rattle.lk_progress.proofs.{Descends.begin_is_short, Moves.{Settles, Settled, settled_is}}
 use Rattle.lk_progress.proofs.Potential.{Staying, step_lowers, row_handlers, step_is_row}
-use Rattle.lk_progress.proofs.Sums.{sum_same, sum_more, times_less}
-use Rattle.lk_progress.proofs.Turned.{turns_few}
+use Rattle.lk_progress.proofs.{Sums.{sum_same, sum_more, times_less}, Turned.turns_few}
+use Rattle.lk_progress.specs.Measure.{most_rows}
+use Rattle.lk_progress.specs.Potential.{weight_of, cpu_weight, pending_weight, budget, most_turns}
+use Rattle.lk_progress.specs.Potential.{cost, TurnIsMade, LeadsNobodyOn, PriceFalls, HasChanges}
+use Rattle.lk_progress.specs.Potential.{ActsLower, RunsAreShort}
+use Rattle.lk_names.specs.declared.events.Act.TheVariants as act
 
 -- the act is a pause, or a step of a head that turns on the spot, of which only the frame changes
 abbrev pub IsQuiet : Machine → Act → Type 0

@@ -1,33 +1,16 @@
 -- A row of no choice leaves no more rows of a choice than there were.
-use Rattle.std.proofs.Common.{◌≡◌, ◌≤◌, arith, inl, inr, Option, Some, None, Bool, true, false, refl, []}
-use Rattle.std.specs.Prelude.{if◌then◌else◌}
-use Rattle.lk_names.specs.declared.names.Mode.{Mode}
-use Rattle.lk_names.specs.declared.names.Mode.TheVariants.{Virt, Native, Cna, Pv}
-use Rattle.lk_names.specs.declared.names.Waiter.{Waiter}
-use Rattle.lk_word.specs.declared.spin_word.NodeName.{NodeName}
-use Rattle.lk_word.specs.declared.spin_word.Fields.{Fields}
-use Rattle.lk_word.specs.declared.rw_word.RwFields.{RwFields}
-use Rattle.lk_rows.specs.declared.parts.Frame.{Frame}
-use Rattle.lk_rows.specs.declared.parts.Pc.{Pc}
-use Rattle.lk_rows.specs.declared.parts.Pc.TheVariants.{F1, T1, T2, U1, V1, V2, P0, P1, P2, P3}
-use Rattle.lk_rows.specs.declared.parts.Pc.TheVariants.{P4, G1, G2, G3, G4, G5, G6, G7, G8, G9}
-use Rattle.lk_rows.specs.declared.parts.Pc.TheVariants.{G10, G11, N1, N2, C3}
-use Rattle.lk_rows.specs.declared.parts.Pc.TheVariants.{R1, R2, R3, R4, R5, Wr1, Wr2, Wr3, Wr4}
-use Rattle.lk_rows.specs.declared.parts.Pc.TheVariants.{Wr5, Wr6, Y1, Y2, Y3, Y4, Y5, Z1, Z2}
-use Rattle.lk_rows.specs.declared.parts.Why.{Why}
+use Rattle.std.proofs.Common.{◌≡◌, ◌≤◌, arith, inl, inr, Option, Some, None, Bool, true, false}
+use Rattle.std.proofs.Common.{refl, [], if◌then◌else◌}
+use Rattle.lk_progress.proofs.Names.{RwFields, Fields, NodeName, Mode, Cna, Native, Pv, Virt}
+use Rattle.lk_progress.proofs.Names.{Waiter, node_of, Effect, gone, target, Frame, Pc, C3, F1, G1}
+use Rattle.lk_progress.proofs.Names.{G2, G3, G4, G5, G6, G7, G8, G9, G10, G11, N1, N2, P0, P1, P2}
+use Rattle.lk_progress.proofs.Names.{P3, P4, R1, R2, R3, R4, R5, T1, T2, U1, V1, V2, Wr1, Wr2, Wr3}
+use Rattle.lk_progress.proofs.Names.{Wr4, Wr5, Wr6, Y1, Y2, Y3, Y4, Y5, Z1, Z2, Why, after_next}
+use Rattle.lk_progress.proofs.Names.{frees_wait, is_cleared, is_empty, is_open, is_free}
+use Rattle.lk_progress.proofs.Names.{is_unlocked, chooses, may_halt, course_in, IsThen, led, World}
+use Rattle.lk_progress.proofs.Names.{choice_at, choice_if}
+use Rattle.lk_progress.specs.Measure.{choice_why}
 use Rattle.lk_rows.specs.declared.parts.Why.TheVariants as why
-use Rattle.lk_rows.specs.Moves.{node_of}
-use Rattle.lk_rows.specs.Row.{Effect, gone}
-use Rattle.lk_rows.specs.rows.Spin.{is_free, is_unlocked}
-use Rattle.lk_rows.specs.rows.Queue.{after_next}
-use Rattle.lk_rows.specs.rows.Rw.{is_empty, is_open, is_cleared, frees_wait}
-use Rattle.lk_rows.specs.TopRow.{target}
-use Rattle.lk_law.specs.Families.{may_halt, chooses}
-use Rattle.lk_law.specs.Leads.{course_in}
-use Rattle.lk_law.specs.Premises.{IsThen}
-use Rattle.lk_law.specs.Steps.{led}
-use Rattle.lk_law.specs.World.{World}
-use Rattle.lk_progress.specs.Measure.{choice_at, choice_if, choice_why}
 
 most_why : (y : Why) → choice_why y ≤ 8
 most_why why.Append = omega arith

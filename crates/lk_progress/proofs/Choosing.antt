@@ -1,37 +1,23 @@
 -- The rows of a head that chooses its successor: each leaves it fewer rows, or leads it on in its turn, or is one
 -- of a head that turns on the spot.
-use Rattle.std.proofs.Common.{◌≡◌, ◌⊎◌, ◌<◌, ◌≤◌, ◌+◌, ℕ, arith, inl, inr, Option, Some, None, Bool, true, false}
-use Rattle.std.proofs.Common.{refl, sym, ap, ◌∙◌, [], ◌∷◌, length}
-use Rattle.std.proofs.lemmas.Option.{slice_get_within}
-use Rattle.std.specs.Prelude.{if◌then◌else◌, is_some}
-use Rattle.lk_names.specs.History.{LockHistory}
-use Rattle.lk_names.specs.declared.names.Waiter.{Waiter}
-use Rattle.lk_names.specs.declared.names.LockName.{LockName}
-use Rattle.lk_word.specs.declared.spin_word.NodeName.{NodeName}
-use Rattle.lk_word.specs.declared.spin_word.Fields.{Fields}
-use Rattle.lk_rows.specs.declared.parts.Frame.{Frame}
-use Rattle.lk_rows.specs.declared.parts.Pc.{Pc}
-use Rattle.lk_rows.specs.declared.parts.Pc.TheVariants.{C1, C2, C3, C4, C5, C6, C7, C8, C9, C10}
-use Rattle.lk_rows.specs.declared.parts.Why.{Why}
-use Rattle.lk_rows.specs.declared.parts.Why.TheVariants as why
-use Rattle.lk_rows.specs.Moves.{node_of}
-use Rattle.lk_rows.specs.Row.{Effect, Goes, Leaves, Says, Y, Second, T, gone, looks}
-use Rattle.lk_names.specs.declared.events.What.TheVariants as what
-use Rattle.lk_rows.specs.TopRow.{target}
-use Rattle.lk_rows.specs.rows.Cna.{Sight, may_stay, is_last, after_none}
-use Rattle.lk_rows.specs.rows.Cna.{search_first, search_on, after_tail}
-use Rattle.lk_law.specs.Families.{chooses}
-use Rattle.lk_law.specs.Leads.{course_in, stored_in}
-use Rattle.lk_law.specs.Premises.{IsThen}
-use Rattle.lk_law.specs.SpinWorld.{IsSoundSpinWorld}
-use Rattle.lk_law.specs.Steps.{led, sight_in, stores_word, stores_next}
-use Rattle.lk_law.specs.World.{World}
+use Rattle.std.proofs.Common.{◌≡◌, ◌⊎◌, ◌<◌, ◌≤◌, ◌+◌, ℕ, arith, inl, inr, Option, Some, None, Bool}
+use Rattle.std.proofs.Common.{true, false, refl, sym, ap, ◌∙◌, [], ◌∷◌, length, if◌then◌else◌}
+use Rattle.std.proofs.Common.{is_some}
+use Rattle.lk_progress.proofs.Names.{slice_get_within, Fields, NodeName, LockHistory, LockName}
+use Rattle.lk_progress.proofs.Names.{Waiter, node_of, Effect, Goes, Leaves, Says, gone, looks}
+use Rattle.lk_progress.proofs.Names.{target, Frame, Pc, C1, C2, C3, C4, C5, C6, C7, C8, C9, C10}
+use Rattle.lk_progress.proofs.Names.{Why, Sight, after_tail, is_last, may_stay, search_first}
+use Rattle.lk_progress.proofs.Names.{search_on, chooses, course_in, stored_in, IsThen}
+use Rattle.lk_progress.proofs.Names.{IsSoundSpinWorld, led, sight_in, stores_next, stores_word}
+use Rattle.lk_progress.proofs.Names.{World, IsBarred, choice_at, choice_if, goes, is_turn, left_at}
+use Rattle.lk_progress.proofs.Names.{left_of, turn_at, turn_of}
+use Rattle.lk_rows.specs.{Row.{Y, Second, T}, rows.Cna.after_none}
 use Rattle.lk_law.proofs.cna.Knows.{skipped_is_queued, queue_is_distinct}
-use Rattle.lk_waits.specs.Waits.{IsBarred}
-use Rattle.lk_progress.specs.Measure.{rows_left_if, left_at, left_of, choice_at, choice_if, choice_why, turn_at, turn_of, contexts, is_linked}
-use Rattle.lk_progress.specs.Measure.{look_at, seek_at, swing_at, promotion_at, is_turn, goes, AreContexts}
-use Rattle.lk_progress.proofs.Measure.{none_left}
-use Rattle.lk_progress.proofs.Pigeon.{list_few}
+use Rattle.lk_progress.proofs.{Measure.none_left, Pigeon.list_few}
+use Rattle.lk_progress.specs.Measure.{rows_left_if, choice_why, contexts, is_linked, look_at}
+use Rattle.lk_progress.specs.Measure.{seek_at, swing_at, promotion_at, AreContexts}
+use Rattle.lk_rows.specs.declared.parts.Why.TheVariants as why
+use Rattle.lk_names.specs.declared.events.What.TheVariants as what
 
 -- a head passes over fewer waiters than there are contexts
 pub few_skipped : (m : World) (hs : LockName → LockHistory) (w : Waiter) (f : Frame) → IsSoundSpinWorld m hs → AreContexts m

@@ -1,28 +1,16 @@
 -- Each row leaves its frame where it was, or leaves it fewer rows, or leads it on in its turn, or is that of a head
 -- which turns on the spot.
-use Rattle.std.proofs.Common.{◌≡◌, ◌⊎◌, ◌<◌, ◌≤◌, ◌+◌, ℕ, arith, inl, inr, Option, Some, Bool, true, false, refl, ap, ◌∙◌}
-use Rattle.std.proofs.lemmas.Bool.{cases_Bool}
-use Rattle.std.specs.Prelude.{if◌then◌else◌}
-use Rattle.lk_names.specs.declared.names.Mode.{Mode}
-use Rattle.lk_names.specs.declared.names.Mode.TheVariants.{Virt, Native, Cna, Pv}
-use Rattle.lk_rows.specs.declared.setup.Verb.{Verb}
-use Rattle.lk_rows.specs.declared.setup.Verb.TheVariants.{Lock, Try, Unlock, Read, TryRead, RUnlock, Write, TryWrite, WUnlock}
-use Rattle.lk_rows.specs.declared.parts.Frame.{Frame}
-use Rattle.lk_rows.specs.declared.parts.Pc.{Pc}
-use Rattle.lk_rows.specs.declared.parts.Pc.TheVariants.{V1, V2, N1, N2, Wr5, Wr6}
-use Rattle.lk_rows.specs.Moves.{started}
-use Rattle.lk_rows.specs.TopRow.{target}
-use Rattle.lk_law.specs.Agree.{halts}
-use Rattle.lk_law.specs.Cna.{moves_aside}
-use Rattle.lk_law.specs.Families.{may_halt, chooses}
-use Rattle.lk_law.specs.Leads.{course_in}
-use Rattle.lk_law.specs.Steps.{led}
-use Rattle.lk_law.proofs.common.Puts.{not-true}
-use Rattle.lk_progress.specs.Measure.{left_at, left_of, left_in, choice_at, choice_if, is_turn, turn_at, turn_if, turn_of}
-use Rattle.lk_progress.specs.Measure.{TurnGoesOn, TurnStays, RowDescends, BeginIsShort}
+use Rattle.std.proofs.Common.{◌≡◌, ◌⊎◌, ◌<◌, ◌≤◌, ◌+◌, ℕ, arith, inl, inr, Option, Some, Bool, true}
+use Rattle.std.proofs.Common.{false, refl, ap, ◌∙◌, if◌then◌else◌}
+use Rattle.lk_progress.proofs.Names.{cases_Bool, Mode, Cna, Native, Pv, Virt, started, target}
+use Rattle.lk_progress.proofs.Names.{Frame, Pc, N1, N2, V1, V2, Wr5, Wr6, Verb, Lock, RUnlock, Read}
+use Rattle.lk_progress.proofs.Names.{Try, TryRead, TryWrite, Unlock, WUnlock, Write, not-true}
+use Rattle.lk_progress.proofs.Names.{halts, moves_aside, chooses, may_halt, course_in, led}
+use Rattle.lk_progress.proofs.Names.{choice_at, choice_if, is_turn, left_at, left_in, left_of}
+use Rattle.lk_progress.proofs.Names.{turn_at, turn_of}
+use Rattle.lk_progress.proofs.{Choiceless.{calm, most}, Choosing.{chosen, few_skipped}}
 use Rattle.lk_progress.proofs.Measure.{less, turn}
-use Rattle.lk_progress.proofs.Choiceless.{calm, most}
-use Rattle.lk_progress.proofs.Choosing.{chosen, few_skipped}
+use Rattle.lk_progress.specs.Measure.{turn_if, TurnGoesOn, TurnStays, RowDescends, BeginIsShort}
 
 -- the left of a frame in a family, by whether heads choose in it
 left_aside : (mode : Mode) (f : Frame) → moves_aside mode ≡ true → left_in mode f ≡ left_of f + choice_if f.place f

@@ -1,34 +1,21 @@
 -- Under a fair schedule everybody finishes.
-use Rattle.std.proofs.Common.{◌≡◌, ◌≢◌, ◌⊎◌, inl, inr, ℕ, zero, suc, ◌<◌, ◌≤◌, ◌+◌, ◌-◌, Bool, true, false}
-use Rattle.std.proofs.Common.{refl, sym, ap, ◌∙◌, subst, arith, [], ◌∷◌, length}
-use Rattle.std.proofs.lemmas.Bool.{cases_Bool, cases_eq}
-use Rattle.std.specs.Prelude.{if◌then◌else◌, None}
-use Rattle.lk_names.specs.History.{history_of}
-use Rattle.lk_names.specs.declared.names.Waiter.{Waiter}
-use Rattle.lk_names.specs.declared.events.Act.{Act}
-use Rattle.lk_names.specs.declared.events.Act.TheVariants as act
-use Rattle.lk_rows.specs.declared.setup.Setup.{Setup}
-use Rattle.lk_rows.specs.Machine.{Machine, preempted_at, set_preempted}
-use Rattle.lk_rows.specs.Acts.{next, processor_of, idle}
-use Rattle.lk_rows.specs.Run.{at_rest}
-use Rattle.lk_law.specs.Agree.{halts}
-use Rattle.lk_law.specs.Cna.{moves_aside}
-use Rattle.lk_law.specs.World.{World}
+use Rattle.std.proofs.Common.{◌≡◌, ◌≢◌, ◌⊎◌, inl, inr, ℕ, zero, suc, ◌<◌, ◌≤◌, ◌+◌, ◌-◌, Bool, true}
+use Rattle.std.proofs.Common.{false, refl, sym, ap, ◌∙◌, subst, arith, [], ◌∷◌, length}
+use Rattle.std.proofs.Common.{if◌then◌else◌, None}
+use Rattle.lk_progress.proofs.Names.{cases_Bool, cases_eq, history_of, Act, Waiter, idle, next}
+use Rattle.lk_progress.proofs.Names.{processor_of, Machine, set_preempted, at_rest, Setup, halts}
+use Rattle.lk_progress.proofs.Names.{moves_aside, World, setup_kept, is_pause, price, IsFinished}
+use Rattle.lk_progress.proofs.Names.{TurnsOnTheSpot}
+use Rattle.lk_rows.specs.Machine.{preempted_at}
+use Rattle.lk_waits.specs.{Aside.IsFollowedAside, Followed.IsHeadFollowed}
 use Rattle.lk_core.proofs.IdleActs.{preempted_now}
-use Rattle.lk_core.proofs.Setups.{setup_kept}
-use Rattle.lk_waits.specs.Aside.{IsFollowedAside}
-use Rattle.lk_waits.specs.Followed.{IsHeadFollowed}
-use Rattle.lk_progress.specs.Fair.{after_first, processors, IsRound, IsFair, FairRunsFinish}
-use Rattle.lk_progress.specs.Potential.{price, is_pause}
-use Rattle.lk_progress.specs.Runs.{IsFinished}
-use Rattle.lk_progress.specs.Spots.{TurnsOnTheSpot}
-use Rattle.lk_progress.proofs.Budget.{IsQuiet, falls}
-use Rattle.lk_progress.proofs.Good.{IsAwake}
-use Rattle.lk_progress.proofs.Potential.{Staying}
+use Rattle.lk_progress.proofs.{Budget.{IsQuiet, falls}, Good.IsAwake, Potential.Staying}
 use Rattle.lk_progress.proofs.Reached.{Reached, start, reached}
 use Rattle.lk_progress.proofs.Runs.{LeadsOn, kept_followed, leads_from}
 use Rattle.lk_progress.proofs.RunsAside.{kept_aside, goes_on_aside}
 use Rattle.lk_progress.proofs.Spot.{Like, spot_same, still_same}
+use Rattle.lk_progress.specs.Fair.{after_first, processors, IsRound, IsFair, FairRunsFinish}
+use Rattle.lk_names.specs.declared.events.Act.TheVariants as act
 
 module _ (F : World → Type 0) (setup : Setup) (schedule : ℕ → Act) (awake : halts setup.mode ≡ false)
     (fair : IsFair setup schedule) (begins : Reached F setup (at_rest setup))

@@ -1,43 +1,23 @@
 -- Behind a return of the secondary queue the next handoff moves nobody; and behind the exchange that empties
 -- the queue nobody stands in one.
-use Rattle.std.proofs.Common.{◌≡◌, ◌≢◌, ◌⊎◌, inl, inr, ℕ, ◌<◌, Some, None, Bool, true, false, [], ◌∷◌, refl}
-use Rattle.std.proofs.Common.{sym, ap, ◌∙◌, subst, length, slice_get}
-use Rattle.std.specs.Prelude.{if◌then◌else◌}
-use Rattle.lk_names.specs.Names.{same_waiter, same_lock}
-use Rattle.lk_names.specs.History.{LockHistory}
-use Rattle.lk_names.specs.declared.names.Waiter.{Waiter}
-use Rattle.lk_names.specs.declared.names.LockName.{LockName}
-use Rattle.lk_names.specs.declared.events.Act.{Act}
-use Rattle.lk_names.specs.declared.events.Event.{Event}
-use Rattle.lk_names.specs.declared.events.What.TheVariants.{Pass, Flush, Promote, Take}
-use Rattle.lk_rows.specs.declared.parts.Frame.{Frame}
-use Rattle.lk_rows.specs.declared.parts.Pc.{Pc}
-use Rattle.lk_rows.specs.declared.parts.Pc.TheVariants.{C1, C7, C8, C9, C10, G8, G9}
-use Rattle.lk_rows.specs.Acts.{next, processor_of}
-use Rattle.lk_rows.specs.Machine.{Machine, top_of, top_frame, frame_at, word_at}
-use Rattle.lk_rows.specs.Moves.{node_of, waiter_of}
-use Rattle.lk_rows.specs.Row.{Answer, Nothing, Says, looks, Goes, Y, Second}
-use Rattle.lk_rows.specs.rows.Cna.{is_last}
-use Rattle.lk_rows.specs.TopRow.{target, row}
-use Rattle.lk_law.specs.Agree.{halts}
-use Rattle.lk_law.specs.Families.{may_halt}
-use Rattle.lk_law.specs.Leads.{course_in, stored_in}
+use Rattle.std.proofs.Common.{◌≡◌, ◌≢◌, ◌⊎◌, inl, inr, ℕ, ◌<◌, Some, None, Bool, true, false, []}
+use Rattle.std.proofs.Common.{◌∷◌, refl, sym, ap, ◌∙◌, subst, length, slice_get, if◌then◌else◌}
+use Rattle.lk_progress.proofs.Names.{Fields, LockHistory, same_lock, same_waiter, Act, Event, Flush}
+use Rattle.lk_progress.proofs.Names.{Pass, Promote, Take, LockName, Waiter, next, processor_of}
+use Rattle.lk_progress.proofs.Names.{Machine, top_frame, top_of, word_at, node_of, Answer, Goes}
+use Rattle.lk_progress.proofs.Names.{Says, looks, row, target, Frame, Pc, C1, C7, C8, C9, C10, G8}
+use Rattle.lk_progress.proofs.Names.{G9, is_last, is_sole, takes_out, waiter_cases, if-false}
+use Rattle.lk_progress.proofs.Names.{if-true, not-true, same_waiter-else, same_waiter-self, halts}
+use Rattle.lk_progress.proofs.Names.{may_halt, course_in, stored_in, ShowsAll, world, led, row_in}
+use Rattle.lk_progress.proofs.Names.{stores_word, World, top_live}
+use Rattle.lk_rows.specs.{Machine.frame_at, Moves.waiter_of, Row.{Nothing, Y, Second}}
+use Rattle.lk_rows.specs.rows.Spin.{held_word}
+use Rattle.lk_law.proofs.common.Sames.{same_lock-self}
 use Rattle.lk_law.specs.Registers.{returns}
-use Rattle.lk_law.specs.Sound.{world, ShowsAll}
-use Rattle.lk_law.specs.Steps.{led, row_in, stores_word}
-use Rattle.lk_law.specs.World.{World}
-use Rattle.lk_law.proofs.common.Cases.{waiter_cases}
-use Rattle.lk_law.proofs.common.Puts.{if-true, if-false, not-true, same_waiter-else}
-use Rattle.lk_law.proofs.common.Sames.{same_waiter-self, same_lock-self}
-use Rattle.lk_core.proofs.RowKept.{top_live}
-use Rattle.lk_progress.proofs.Acted.{Acted, Idles, Makes, Comes, acted}
-use Rattle.lk_progress.proofs.Moves.{Moves}
+use Rattle.lk_progress.proofs.{Acted.{Acted, Idles, Makes, Comes, acted}, Moves.Moves}
 use Rattle.lk_progress.proofs.Rows.{Put, row_moves, row_tells}
 use Rattle.lk_progress.proofs.Told.{ToldRow, told_says, told_hands, tell_is}
 use Rattle.lk_names.specs.declared.events.How.TheVariants as how
-use Rattle.lk_word.specs.declared.spin_word.Fields.{Fields}
-use Rattle.lk_rows.specs.rows.Spin.{held_word}
-use Rattle.lk_rows.specs.rows.Queue.{is_sole, takes_out}
 
 -- the frame of the waiter is about to hand off, and moves nobody
 pub record MovesNobody (m : World) (u : Waiter) (l : LockName) : Type 0 where

@@ -1,50 +1,28 @@
 -- Every act keeps a machine steady, and what is true of its heads that wait for a successor.
-use Rattle.std.proofs.Common.{◌≡◌, ◌≢◌, ◌⊎◌, inl, inr, ℕ, zero, suc, ◌<◌, ◌≤◌, ◌+◌, ◌-◌, Option, Some, None, Bool}
-use Rattle.std.proofs.Common.{true, false, refl, sym, ap, ◌∙◌, subst, arith, length}
-use Rattle.std.proofs.lemmas.Bool.{cases_Bool, or_parts, leb-false}
-use Rattle.std.specs.Prelude.{if◌then◌else◌, ◌||◌, ◌&&◌, not, nat_le}
-use Rattle.lk_names.specs.Names.{same_waiter}
-use Rattle.lk_names.specs.History.{LockHistory}
-use Rattle.lk_names.specs.declared.names.Mode.{Mode}
-use Rattle.lk_names.specs.declared.names.Waiter.{Waiter}
-use Rattle.lk_names.specs.declared.names.LockName.{LockName}
-use Rattle.lk_names.specs.declared.events.Act.{Act}
-use Rattle.lk_names.specs.declared.events.Act.TheVariants as act
-use Rattle.lk_rows.specs.declared.parts.Frame.{Frame}
-use Rattle.lk_rows.specs.declared.parts.Pc.{Pc}
-use Rattle.lk_rows.specs.declared.parts.Pc.TheVariants.{G1, R3, W6, W7, E2, E12}
-use Rattle.lk_rows.specs.Machine.{Machine, frame_at, top_of, HasTop, top_frame, depth_at, handlers_at, queued_at}
-use Rattle.lk_rows.specs.Machine.{preempted_at, halted_at, kicked_at, set_preempted, set_kicked, push}
-use Rattle.lk_rows.specs.rows.Pv.{is_set}
-use Rattle.lk_rows.specs.Moves.{settled}
-use Rattle.lk_rows.specs.Programs.{handlers_of}
-use Rattle.lk_rows.specs.TopRow.{row, row_at, target}
-use Rattle.lk_rows.specs.Acts.{next, is_shut, stands_halting, handler_frame, awake, woken, processor_of, idle}
-use Rattle.lk_rows.specs.Acts.{step_halted, kicked_awake, nudged, after_halt}
-use Rattle.lk_law.specs.Agree.{halts}
-use Rattle.lk_law.specs.Cna.{moves_aside}
-use Rattle.lk_law.specs.Leads.{course_in, stored_in}
-use Rattle.lk_law.specs.Sound.{world, ShowsAll, RunsOne}
-use Rattle.lk_law.specs.Premises.{IsThen, IsNewest}
-use Rattle.lk_law.specs.SoundWorld.{spin_part}
-use Rattle.lk_law.specs.SpinWorld.{IsSoundSpinWorld}
-use Rattle.lk_law.specs.Steps.{led}
-use Rattle.lk_law.specs.World.{World}
-use Rattle.lk_law.proofs.common.Cases.{waiter_cases}
-use Rattle.lk_law.proofs.common.Puts.{if-true, if-false, same_waiter-else}
-use Rattle.lk_law.proofs.common.Sames.{same_waiter-self}
-use Rattle.lk_core.proofs.Access.{above_top}
-use Rattle.lk_core.proofs.RowKept.{top_live}
-use Rattle.lk_core.proofs.Same.{KeepsFrames, has_top_same, tops_push, depth_push}
-use Rattle.lk_core.proofs.Seated.{next_of, world-push, world-set_preempted}
-use Rattle.lk_progress.specs.Ordered.{IsSteady, ReadsAlone}
-use Rattle.lk_progress.proofs.Reading.{row_reads_alone}
-use Rattle.lk_waits.proofs.Changed.{Changed, Roused}
-use Rattle.lk_waits.proofs.Quiet.{IsQuietFrame, Comes}
-use Rattle.lk_progress.proofs.Moves.{Moves, Settled, settled_is}
+use Rattle.std.proofs.Common.{◌≡◌, ◌≢◌, ◌⊎◌, inl, inr, ℕ, zero, suc, ◌<◌, ◌≤◌, ◌+◌, ◌-◌, Option}
+use Rattle.std.proofs.Common.{Some, None, Bool, true, false, refl, sym, ap, ◌∙◌, subst, arith}
+use Rattle.std.proofs.Common.{length, if◌then◌else◌, ◌||◌, ◌&&◌, not, nat_le}
+use Rattle.lk_progress.proofs.Names.{cases_Bool, leb-false, or_parts, LockHistory, same_waiter, Act}
+use Rattle.lk_progress.proofs.Names.{LockName, Mode, Waiter, after_halt, handler_frame, idle}
+use Rattle.lk_progress.proofs.Names.{is_shut, kicked_awake, next, nudged, processor_of}
+use Rattle.lk_progress.proofs.Names.{stands_halting, step_halted, woken, HasTop, Machine, halted_at}
+use Rattle.lk_progress.proofs.Names.{handlers_at, kicked_at, push, queued_at, set_kicked}
+use Rattle.lk_progress.proofs.Names.{set_preempted, top_frame, top_of, settled, handlers_of, row}
+use Rattle.lk_progress.proofs.Names.{row_at, target, Frame, Pc, E2, E12, G1, R3, W6, W7, is_set}
+use Rattle.lk_progress.proofs.Names.{waiter_cases, if-false, if-true, same_waiter-else}
+use Rattle.lk_progress.proofs.Names.{same_waiter-self, halts, moves_aside, course_in, stored_in}
+use Rattle.lk_progress.proofs.Names.{IsThen, ShowsAll, world, spin_part, IsSoundSpinWorld, led}
+use Rattle.lk_progress.proofs.Names.{World, IsQuietFrame, above_top, top_live, KeepsFrames}
+use Rattle.lk_progress.proofs.Names.{depth_push, has_top_same, tops_push, next_of, world-push}
+use Rattle.lk_progress.proofs.Names.{world-set_preempted, IsSteady, ReadsAlone}
+use Rattle.lk_rows.specs.{Acts.awake, Machine.{frame_at, depth_at, preempted_at}}
+use Rattle.lk_law.specs.{Premises.IsNewest, Sound.RunsOne}
+use Rattle.lk_waits.proofs.{Changed.{Changed, Roused}, Quiet.Comes}
+use Rattle.lk_progress.proofs.{Moves.{Moves, Settled, settled_is}, Reading.row_reads_alone}
 use Rattle.lk_progress.proofs.Rows.{Put, row_moves}
 use Rattle.lk_progress.proofs.Settling.{settled_quiet, settled_same, settled_reads}
 use Rattle.lk_progress.proofs.Woken.{top_newest, sleeps, woken_keeps, roused_is, kicked_is}
+use Rattle.lk_names.specs.declared.events.Act.TheVariants as act
 
 -- A machine is steady, and its world is so.
 pub record IsGood (F : World → Type 0) (m : Machine) : Type 0 where

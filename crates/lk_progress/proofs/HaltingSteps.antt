@@ -1,47 +1,30 @@
 -- A step of the family that halts processors leads nowhere, or it leads on.
-use Rattle.std.proofs.Common.{◌≡◌, ◌≢◌, ◌⊎◌, inl, inr, ℕ, ◌<◌, Option, Some, None, Bool}
-use Rattle.std.proofs.Common.{true, false, refl, sym, ap, ◌∙◌, [], ◌∷◌, length, arith}
-use Rattle.std.proofs.lemmas.Bool.{cases_Bool}
-use Rattle.std.specs.Prelude.{if◌then◌else◌, is_some, ◌&&◌, not}
-use Rattle.lk_names.specs.History.{LockHistory, history_of}
-use Rattle.lk_names.specs.declared.names.LockName.{LockName}
-use Rattle.lk_names.specs.declared.events.Act.TheVariants as act
-use Rattle.lk_names.specs.declared.events.RwHow.TheVariants as how
-use Rattle.lk_word.specs.declared.spin_word.NodeName.{NodeName}
-use Rattle.lk_word.specs.declared.spin_word.Fields.{Fields}
-use Rattle.lk_word.specs.declared.spin_word.Locked.{Locked}
-use Rattle.lk_word.specs.declared.spin_word.Locked.TheVariants.{Held}
-use Rattle.lk_rows.specs.declared.parts.Frame.{Frame}
-use Rattle.lk_rows.specs.declared.parts.Pc.{Pc}
-use Rattle.lk_rows.specs.declared.parts.Pc.TheVariants.{H1, H2, E14, R2, R5, Wr5, Wr6}
-use Rattle.lk_rows.specs.declared.setup.Setup.{Setup}
-use Rattle.lk_rows.specs.Run.{at_rest, machine_after}
-use Rattle.lk_rows.specs.Acts.{next, idle, kicked_awake, stands_halting}
-use Rattle.lk_rows.specs.Machine.{Machine, frame_at, top_of, top_frame, set_top, word_at, node_at, rw_at, preempted_at, halted_at, kicked_at}
-use Rattle.lk_rows.specs.Moves.{node_of}
-use Rattle.lk_rows.specs.Row.{Tailed, Done, gone, looks}
-use Rattle.lk_rows.specs.rows.Cna.{is_held}
-use Rattle.lk_rows.specs.rows.Pv.{after_glance, after_given_up, pv_after_next}
-use Rattle.lk_rows.specs.rows.Rw.{is_cleared, admits, frees_wait}
-use Rattle.lk_rows.specs.rows.Spin.{is_unlocked}
-use Rattle.lk_rows.specs.TopRow.{row, row_on, row_at, on_next, target}
-use Rattle.lk_law.specs.Agree.{halts}
-use Rattle.lk_law.specs.Premises.{IsThen}
-use Rattle.lk_law.specs.Sound.{world, ShowsAll}
-use Rattle.lk_law.specs.Steps.{led}
-use Rattle.lk_law.specs.SoundWorld.{spin_part}
-use Rattle.lk_core.proofs.RowKept.{top_live}
-use Rattle.lk_waits.specs.Halting.{IsHeadServed, goes_around}
-use Rattle.lk_progress.specs.Runs.{IsFinished, GoesAround, StepsNowhere, SomebodyLeadsOn, SomebodyLeadsOnHalting}
-use Rattle.lk_waits.specs.Waits as waits
-use Rattle.lk_progress.proofs.Good.{IsHalting}
-use Rattle.lk_progress.proofs.Woken.{kicked_runs, sleeping_place}
-use Rattle.lk_waits.proofs.HaltingStands.{looks_on, same_frame, still_looks_at, still_E14}
-use Rattle.lk_progress.proofs.Reached.{Reached, reached_from_rest, row_stuck}
+use Rattle.std.proofs.Common.{◌≡◌, ◌≢◌, ◌⊎◌, inl, inr, ℕ, ◌<◌, Option, Some, None, Bool, true}
+use Rattle.std.proofs.Common.{false, refl, sym, ap, ◌∙◌, [], ◌∷◌, length, arith, if◌then◌else◌}
+use Rattle.std.proofs.Common.{is_some, ◌&&◌, not}
+use Rattle.lk_progress.proofs.Names.{cases_Bool, Fields, Locked, Held, NodeName, LockHistory}
+use Rattle.lk_progress.proofs.Names.{history_of, LockName, idle, kicked_awake, next, stands_halting}
+use Rattle.lk_progress.proofs.Names.{Machine, halted_at, kicked_at, rw_at, top_frame, top_of}
+use Rattle.lk_progress.proofs.Names.{word_at, node_of, Done, gone, looks, at_rest, machine_after}
+use Rattle.lk_progress.proofs.Names.{row, row_at, row_on, target, Frame, Pc, E14, H1, H2, R2, R5}
+use Rattle.lk_progress.proofs.Names.{Wr5, Wr6, Setup, is_held, after_given_up, after_glance}
+use Rattle.lk_progress.proofs.Names.{pv_after_next, admits, frees_wait, is_cleared, is_unlocked}
+use Rattle.lk_progress.proofs.Names.{halts, IsThen, ShowsAll, world, spin_part, led, still_looks_at}
+use Rattle.lk_progress.proofs.Names.{IsHeadServed, goes_around, top_live, GoesAround, IsFinished}
+use Rattle.lk_progress.proofs.Names.{StepsNowhere}
+use Rattle.lk_rows.specs.{Machine.{frame_at, set_top, node_at, preempted_at}, Row.Tailed}
+use Rattle.lk_rows.specs.TopRow.{on_next}
+use Rattle.lk_waits.proofs.HaltingStands.{looks_on, same_frame, still_E14}
+use Rattle.lk_waits.proofs.Stands.{still_R2, still_R5, still_Wr5}
+use Rattle.lk_progress.proofs.{Good.IsHalting, Reached.{Reached, reached_from_rest, row_stuck}}
 use Rattle.lk_progress.proofs.Runs.{all_or}
 use Rattle.lk_progress.proofs.RunsHalting.{row_halts, step_is, kept_served, finished_at}
-use Rattle.lk_waits.proofs.Stands.{still_R2, still_R5, still_Wr5}
 use Rattle.lk_progress.proofs.Still.{set_top_same, stays_same}
+use Rattle.lk_progress.proofs.Woken.{kicked_runs, sleeping_place}
+use Rattle.lk_progress.specs.Runs.{SomebodyLeadsOn, SomebodyLeadsOnHalting}
+use Rattle.lk_names.specs.declared.events.Act.TheVariants as act
+use Rattle.lk_names.specs.declared.events.RwHow.TheVariants as how
+use Rattle.lk_waits.specs.Waits as waits
 
 pub bool_same : (a b : Bool) → (a ≡ b) ⊎ (a ≢ b)
 bool_same true true = inl refl

@@ -1,50 +1,30 @@
 -- How many takes of a lock a waiter of its queue sees before its own.
-use Rattle.std.proofs.Common.{◌≡◌, ◌≢◌, inl, inr, ℕ, suc, ◌<◌, ◌≤◌, ◌+◌, Option, Some, None, Bool, true, false, List, [], ◌∷◌, ◌++◌}
-use Rattle.std.proofs.Common.{refl, sym, ap, ◌∙◌, subst, arith, length, slice_get}
-use Rattle.std.proofs.lemmas.Bool.{cases_Bool}
-use Rattle.std.specs.Prelude.{if◌then◌else◌, Contains, slice_index_or}
-use Rattle.lk_abs.specs.Allowed.{IsAllowed}
-use Rattle.lk_names.specs.History.{LockHistory, history_of, lock_of, is_on, changed, taken}
-use Rattle.lk_names.specs.Lawful.{Rules, InOrder, IsOutside, Holds, IsLawful}
-use Rattle.lk_names.specs.Names.{same_lock}
-use Rattle.lk_names.specs.declared.holder.Manner.TheVariants.{Spins}
-use Rattle.lk_names.specs.declared.holder.Holder.{Holder}
-use Rattle.lk_names.specs.declared.names.Kind.TheVariants.{Spin}
-use Rattle.lk_names.specs.declared.names.Mode.{Mode}
-use Rattle.lk_names.specs.declared.names.Waiter.{Waiter}
-use Rattle.lk_names.specs.declared.names.LockName.{LockName}
-use Rattle.lk_names.specs.declared.events.Act.{Act}
-use Rattle.lk_names.specs.declared.events.Event.{Event}
-use Rattle.lk_names.specs.declared.events.How.{How}
-use Rattle.lk_names.specs.declared.events.How.TheVariants as how
-use Rattle.lk_names.specs.declared.events.What.{What}
-use Rattle.lk_names.specs.declared.events.What.TheVariants.{Take, Arrive, Int}
+use Rattle.std.proofs.Common.{◌≡◌, ◌≢◌, inl, inr, ℕ, suc, ◌<◌, ◌≤◌, ◌+◌, Option, Some, None, Bool}
+use Rattle.std.proofs.Common.{true, false, List, [], ◌∷◌, ◌++◌, refl, sym, ap, ◌∙◌, subst, arith}
+use Rattle.std.proofs.Common.{length, slice_get, if◌then◌else◌, Contains, slice_index_or}
+use Rattle.lk_progress.proofs.Names.{cases_Bool, LockHistory, changed, history_of, Holds, InOrder}
+use Rattle.lk_progress.proofs.Names.{Rules, same_lock, Act, Event, How, What, Arrive, Int, Take}
+use Rattle.lk_progress.proofs.Names.{Holder, Spins, Spin, LockName, Mode, Waiter, next}
+use Rattle.lk_progress.proofs.Names.{processor_of, Machine, IsLawfulSetup, at_rest, machine_after}
+use Rattle.lk_progress.proofs.Names.{Setup, lists_main, LockAgrees, halts, sole, moves_aside}
+use Rattle.lk_progress.proofs.Names.{with_event, ShowsLawful, queues, snapshot, world, is_rw_name}
+use Rattle.lk_progress.proofs.Names.{acts_keep, setup_kept}
 use Rattle.lk_names.proofs.ByIndex.{get-append_new}
+use Rattle.lk_names.specs.{History.{lock_of, is_on, taken}, Lawful.{IsOutside, IsLawful}}
 use Rattle.lk_abs.proofs.OneMore.{told_here, told_elsewhere, allowed_from_lawful}
 use Rattle.lk_abs.proofs.Sameness.{is_on-true}
-use Rattle.lk_rows.specs.declared.setup.Setup.{Setup}
-use Rattle.lk_rows.specs.Acts.{next, processor_of}
-use Rattle.lk_rows.specs.Machine.{Machine}
-use Rattle.lk_rows.specs.Programs.{IsLawfulSetup}
+use Rattle.lk_abs.specs.Allowed.{IsAllowed}
 use Rattle.lk_rows.specs.Rules.{rules_of}
-use Rattle.lk_rows.specs.Run.{at_rest, machine_after, history, history_from, events_of, occurs, Occurrence}
-use Rattle.lk_law.specs.Agree.{halts, sole, LockAgrees}
-use Rattle.lk_law.specs.Cna.{moves_aside}
-use Rattle.lk_law.specs.Kicked.{with_event}
-use Rattle.lk_law.specs.MachineLaws.{AreInRange, ShowsLawful}
-use Rattle.lk_law.specs.Phase.{queues}
-use Rattle.lk_law.specs.Places.{snapshot}
-use Rattle.lk_law.specs.Sound.{world}
-use Rattle.lk_law.specs.SoundWorld.{is_rw_name}
-use Rattle.lk_law.proofs.common.Families.{lists_main}
+use Rattle.lk_rows.specs.Run.{history, history_from, events_of, occurs, Occurrence}
 use Rattle.lk_law.proofs.common.Sames.{same_lock-self, same_lock-true}
-use Rattle.lk_core.proofs.Runs.{acts_keep, runs_keep}
-use Rattle.lk_core.proofs.Setups.{setup_kept}
-use Rattle.lk_progress.specs.InTurn.{is_take, takes, TakesNot, IsWaiting, history_after}
-use Rattle.lk_progress.specs.InTurn.{FewTakesBefore, FewerUnwatched, FewTakesFromArrival}
+use Rattle.lk_law.specs.MachineLaws.{AreInRange}
+use Rattle.lk_core.proofs.Runs.{runs_keep}
 use Rattle.lk_progress.proofs.Ahead.{Sees, holds_sole, others, head_takes, sole_takes, late_takes}
 use Rattle.lk_progress.proofs.Told.{ToldRow, told_row}
 use Rattle.lk_progress.proofs.Watched.{not_shared, spin_lock, Late, late_keeps, late_less}
+use Rattle.lk_progress.specs.InTurn.{is_take, takes, TakesNot, IsWaiting, history_after}
+use Rattle.lk_progress.specs.InTurn.{FewTakesBefore, FewerUnwatched, FewTakesFromArrival}
+use Rattle.lk_names.specs.declared.events.How.TheVariants as how
 
 -- What each act has to keep: of a state in which a waiter sees at most n takes more before its own, one is
 -- made in which it sees no more, and behind a take by another fewer.

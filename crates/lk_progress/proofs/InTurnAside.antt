@@ -1,49 +1,35 @@
 -- How many takes of a lock a waiter sees before its own, where waiters are moved aside.
-use Rattle.std.proofs.Common.{◌≡◌, ◌≢◌, inl, inr, ℕ, zero, suc, ◌<◌, ◌≤◌, ◌+◌, ◌*◌, Some, None, true, false, List, [], ◌∷◌, ◌++◌}
-use Rattle.std.proofs.Common.{refl, sym, ap, ◌∙◌, subst, arith, length, slice_get, drop, take, replicate}
-use Rattle.std.proofs.lemmas.Bool.{cases_Bool}
-use Rattle.std.specs.Prelude.{Contains, slice_index_or, map}
-use Rattle.lk_abs.specs.Allowed.{IsAllowed}
-use Rattle.lk_names.specs.History.{LockHistory, no_history, history_of, lock_of, is_on, changed, taken}
-use Rattle.lk_names.specs.Lawful.{Rules, InOrder, IsOutside, IsLawful}
-use Rattle.lk_names.specs.declared.holder.Manner.TheVariants.{Spins}
-use Rattle.lk_names.specs.declared.holder.Holder.{Holder}
-use Rattle.lk_names.specs.declared.names.Kind.TheVariants.{Spin}
-use Rattle.lk_names.specs.declared.names.Mode.{Mode}
-use Rattle.lk_names.specs.declared.names.Waiter.{Waiter}
-use Rattle.lk_names.specs.declared.names.LockName.{LockName}
-use Rattle.lk_names.specs.declared.events.Act.{Act}
-use Rattle.lk_names.specs.declared.events.Event.{Event}
-use Rattle.lk_names.specs.declared.events.How.{How}
-use Rattle.lk_names.specs.declared.events.How.TheVariants as how
-use Rattle.lk_names.specs.declared.events.What.{What}
-use Rattle.lk_names.specs.declared.events.What.TheVariants.{Take, Miss, Release, Kick, Arrive, Pass, Flush, Promote, Leave}
-use Rattle.lk_names.specs.declared.events.What.TheVariants.{Halt, Wake, Int, Nudge, RTake, RRelease, WTake, WRelease}
-use Rattle.lk_names.proofs.ByIndex.{get-append_new, get-append_old, get-drop_one, get_cases, get_past, get_within}
+use Rattle.std.proofs.Common.{◌≡◌, ◌≢◌, inl, inr, ℕ, zero, suc, ◌<◌, ◌≤◌, ◌+◌, ◌*◌, Some, None}
+use Rattle.std.proofs.Common.{true, false, List, [], ◌∷◌, ◌++◌, refl, sym, ap, ◌∙◌, subst, arith}
+use Rattle.std.proofs.Common.{length, slice_get, drop, take, replicate, Contains, slice_index_or}
+use Rattle.std.proofs.Common.{map}
+use Rattle.lk_progress.proofs.Names.{cases_Bool, get-append_old, get-drop_one, LockHistory, changed}
+use Rattle.lk_progress.proofs.Names.{history_of, InOrder, Rules, Act, Event, How, What, Arrive}
+use Rattle.lk_progress.proofs.Names.{Flush, Halt, Int, Kick, Leave, Miss, Nudge, Pass, Promote}
+use Rattle.lk_progress.proofs.Names.{RRelease, RTake, Release, Take, WRelease, WTake, Wake, Holder}
+use Rattle.lk_progress.proofs.Names.{Spins, Spin, LockName, Mode, Waiter, next, processor_of}
+use Rattle.lk_progress.proofs.Names.{Machine, at_rest, machine_after, Setup, lists_main, lists_none}
+use Rattle.lk_progress.proofs.Names.{if-false, LockAgrees, halts, ShowsLawful, queues, snapshot}
+use Rattle.lk_progress.proofs.Names.{world, is_rw_name, spin_part, setup_kept}
+use Rattle.lk_names.proofs.ByIndex.{get-append_new, get_cases, get_past, get_within}
+use Rattle.lk_names.specs.History.{no_history, lock_of, is_on, taken}
+use Rattle.lk_names.specs.Lawful.{IsOutside, IsLawful}
 use Rattle.lk_abs.proofs.OneMore.{told_here, told_elsewhere, allowed_from_lawful, counts_fit}
 use Rattle.lk_abs.proofs.Sameness.{is_on-true, is_on-from}
-use Rattle.lk_rows.specs.declared.setup.Setup.{Setup}
-use Rattle.lk_rows.specs.Acts.{next, processor_of}
-use Rattle.lk_rows.specs.Machine.{Machine}
-use Rattle.lk_rows.specs.Rules.{rules_of}
-use Rattle.lk_rows.specs.Run.{at_rest, machine_after, history, events_of}
-use Rattle.lk_law.specs.Agree.{halts, LockAgrees}
-use Rattle.lk_law.specs.MachineLaws.{ShowsLawful}
-use Rattle.lk_law.specs.Phase.{queues}
-use Rattle.lk_law.specs.Places.{snapshot}
-use Rattle.lk_law.specs.Sound.{world}
-use Rattle.lk_law.specs.SoundWorld.{spin_part, is_rw_name}
-use Rattle.lk_law.proofs.cna.Knows.{passes_are_bounded}
-use Rattle.lk_law.proofs.common.Families.{lists_none, lists_main, lists_second}
-use Rattle.lk_law.proofs.common.Puts.{if-false}
-use Rattle.lk_core.proofs.Setups.{setup_kept}
+use Rattle.lk_abs.specs.Allowed.{IsAllowed}
+use Rattle.lk_rows.specs.{Rules.rules_of, Run.{history, events_of}}
+use Rattle.lk_law.proofs.{cna.Knows.passes_are_bounded, common.Families.lists_second}
+use Rattle.lk_progress.proofs.AheadAside.{Sees, Costs, Heads, Queued, Next, Aside, IsOther, up}
+use Rattle.lk_progress.proofs.AheadAside.{stand, others, hands, rejoins, head_takes, late_takes}
+use Rattle.lk_progress.proofs.Fresh.{Fresh, moves_keep, hands_none, flushed, promoted, sole_empties}
+use Rattle.lk_progress.proofs.InTurn.{Counts, few, not_take, take_is, not_yet, shows, same}
+use Rattle.lk_progress.proofs.InTurn.{in_range, arrived, range_after, told_arrival, arrives}
+use Rattle.lk_progress.proofs.Told.{ToldRow, told_row, told_says}
+use Rattle.lk_progress.proofs.Watched.{not_shared, not_shared_aside, spin_lock, Late, late_keeps}
+use Rattle.lk_progress.proofs.Watched.{late_less}
 use Rattle.lk_progress.specs.InTurn.{is_take, history_after, StandsBehind, InMain, IsAside}
 use Rattle.lk_progress.specs.InTurn.{FewTakesAside, FewTakesAsideFromArrival}
-use Rattle.lk_progress.proofs.AheadAside.{Sees, Costs, Heads, Queued, Next, Aside, IsOther, up, stand, others, hands, rejoins, head_takes, late_takes}
-use Rattle.lk_progress.proofs.Fresh.{Fresh, moves_keep, hands_none, flushed, promoted, sole_empties}
-use Rattle.lk_progress.proofs.InTurn.{Counts, few, not_take, take_is, not_yet, shows, same, in_range, arrived, range_after, told_arrival, arrives}
-use Rattle.lk_progress.proofs.Told.{ToldRow, told_row, told_says}
-use Rattle.lk_progress.proofs.Watched.{not_shared, not_shared_aside, spin_lock, Late, late_keeps, late_less}
+use Rattle.lk_names.specs.declared.events.How.TheVariants as how
 
 -- The waiter stands in a queue, and sees at most n takes more.
 record Lives (t : ℕ) (l : LockName) (w : Waiter) (m : Machine) (es : List Event) (n : ℕ) : Type 0 where

@@ -1,38 +1,24 @@
 -- Each row leaves its frame where it was, or leaves it fewer rows, or leads it on in its turn.
-use Rattle.std.proofs.Common.{◌≡◌, ◌⊎◌, ◌<◌, ◌+◌, ℕ, arith, inl, inr, Option, Some, None, Bool, true, false}
-use Rattle.std.proofs.Common.{refl, ap, []}
-use Rattle.std.specs.Prelude.{if◌then◌else◌, is_some, ◌&&◌, not, ◌==◌}
-use Rattle.lk_names.specs.declared.names.Mode.{Mode}
-use Rattle.lk_names.specs.declared.names.Mode.TheVariants.{Virt, Native, Cna, Pv}
-use Rattle.lk_names.specs.declared.names.Waiter.{Waiter}
-use Rattle.lk_word.specs.declared.spin_word.NodeName.{NodeName}
-use Rattle.lk_word.specs.declared.spin_word.Fields.{Fields}
-use Rattle.lk_word.specs.declared.rw_word.RwFields.{RwFields}
-use Rattle.lk_rows.specs.declared.parts.Flag.{Flag}
+use Rattle.std.proofs.Common.{◌≡◌, ◌⊎◌, ◌<◌, ◌+◌, ℕ, arith, inl, inr, Option, Some, None, Bool}
+use Rattle.std.proofs.Common.{true, false, refl, ap, [], if◌then◌else◌, is_some, ◌&&◌, not, ◌==◌}
+use Rattle.lk_progress.proofs.Names.{RwFields, Fields, NodeName, Mode, Cna, Native, Pv, Virt}
+use Rattle.lk_progress.proofs.Names.{Waiter, is_node, node_of, Effect, Goes, Lead}
+use Rattle.lk_progress.proofs.Names.{gone, looks, target, Flag, Frame, Pc, F1, G1, G2, G3}
+use Rattle.lk_progress.proofs.Names.{G4, G5, G6, G7, G8, G9, G10, G11, N1, N2, P0, P1, P2, P3, P4}
+use Rattle.lk_progress.proofs.Names.{R1, R2, R3, R4, R5, T1, T2, U1, U2, V1, V2, Wr1, Wr2, Wr3, Wr4}
+use Rattle.lk_progress.proofs.Names.{Wr5, Wr6, Y1, Y2, Y3, Y4, Y5, Z1, Z2, after_arrival}
+use Rattle.lk_progress.proofs.Names.{after_entry, after_flag, after_head, after_link, after_next}
+use Rattle.lk_progress.proofs.Names.{is_sole, own_node, takes_out, frees_wait, is_cleared, is_empty}
+use Rattle.lk_progress.proofs.Names.{is_open, after_fast, is_free, is_unlocked, to_queue, halts}
+use Rattle.lk_progress.proofs.Names.{chooses, may_halt, course_in, stored_in, IsThen, led}
+use Rattle.lk_progress.proofs.Names.{stores_word, World, goes, is_turn, left_at, left_of, turn_at}
+use Rattle.lk_progress.proofs.Names.{turn_of}
+use Rattle.lk_rows.specs.{Row.Change, rows.Rw.takes_written, rows.Spin.takes}
+use Rattle.lk_law.specs.Steps.{stores_rw}
+use Rattle.lk_progress.specs.Measure.{rows_left, rows_left_if, is_taking}
 use Rattle.lk_rows.specs.declared.parts.Flag.TheVariants as flag
-use Rattle.lk_rows.specs.declared.parts.Frame.{Frame}
-use Rattle.lk_rows.specs.declared.parts.Pc.{Pc}
-use Rattle.lk_rows.specs.declared.parts.Pc.TheVariants.{F1, T1, T2, U1, V1, V2, P0, P1, P2, P3}
-use Rattle.lk_rows.specs.declared.parts.Pc.TheVariants.{P4, G1, G2, G3, G4, G5, G6, G7, G8, G9}
-use Rattle.lk_rows.specs.declared.parts.Pc.TheVariants.{G10, G11, N1, N2}
-use Rattle.lk_rows.specs.declared.parts.Pc.TheVariants.{R1, R2, R3, R4, R5, Wr1, Wr2, Wr3, Wr4}
-use Rattle.lk_rows.specs.declared.parts.Pc.TheVariants.{Wr5, Wr6, Y1, Y2, Y3, Y4, Y5, Z1, Z2, U2}
-use Rattle.lk_rows.specs.Moves.{is_node, node_of}
-use Rattle.lk_rows.specs.Row.{Effect, Lead, Goes, Granted, Missed, Leaves, Change, gone, looks}
 use Rattle.lk_names.specs.declared.events.How.TheVariants as how
 use Rattle.lk_names.specs.declared.events.RwHow.TheVariants as rw_how
-use Rattle.lk_rows.specs.rows.Spin.{is_free, is_unlocked, to_queue, after_fast, takes}
-use Rattle.lk_rows.specs.rows.Queue.{takes_out, is_sole, own_node, after_entry, after_arrival}
-use Rattle.lk_rows.specs.rows.Queue.{after_head, after_flag, after_next, after_link}
-use Rattle.lk_rows.specs.rows.Rw.{takes_written, is_empty, is_open, is_cleared, frees_wait}
-use Rattle.lk_rows.specs.TopRow.{target}
-use Rattle.lk_law.specs.Families.{may_halt, chooses}
-use Rattle.lk_law.specs.Leads.{course_in, stored_in}
-use Rattle.lk_law.specs.Premises.{IsThen}
-use Rattle.lk_law.specs.Steps.{led, stores_word, stores_rw}
-use Rattle.lk_law.specs.World.{World}
-use Rattle.lk_law.specs.Agree.{halts}
-use Rattle.lk_progress.specs.Measure.{rows_left, rows_left_if, is_taking, left_at, left_of, is_turn, turn_at, turn_of, goes}
 
 -- what is behind a wait lock on the way to it
 abbrev behind : Frame → ℕ

@@ -1,33 +1,24 @@
 -- What a row of a machine does to its words and frames: as the row of its world does, and then the
 -- frame goes on to its next operation, if its own has ended.
-use Rattle.std.proofs.Common.{◌≡◌, ◌≢◌, ◌⊎◌, inl, inr, ℕ, ◌<◌, ◌+◌, Option, Some, None, Bool}
-use Rattle.std.proofs.Common.{true, false, refl, sym, ap, ◌∙◌, subst, arith, List, [], ◌∷◌, slice_get, zero, suc, get_or, set}
-use Rattle.std.specs.Prelude.{if◌then◌else◌, ◌==◌}
-use Rattle.lk_names.specs.Names.{same_waiter}
-use Rattle.lk_names.specs.declared.names.Mode.{Mode}
-use Rattle.lk_names.specs.declared.names.Waiter.{Waiter}
-use Rattle.lk_names.specs.declared.names.LockName.{LockName}
-use Rattle.lk_word.specs.declared.spin_word.NodeName.{NodeName}
-use Rattle.lk_rows.specs.declared.setup.Op.{Op}
-use Rattle.lk_rows.specs.declared.parts.Frame.{Frame}
-use Rattle.lk_rows.specs.declared.parts.Node.{Node}
-use Rattle.lk_rows.specs.declared.parts.Pc.{Pc}
-use Rattle.lk_rows.specs.Machine.{Machine, frame_at, word_at, set_top, set_node, pop, top_of, HasTop, rest_node, cpu_at}
-use Rattle.lk_rows.specs.Machine.{rw_at, handlers_at, node_at, kicked_at, halted_at, CpuState, no_cpu, set_cpu}
-use Rattle.lk_rows.specs.rows.Pv.{is_set}
-use Rattle.lk_rows.specs.Moves.{program_of, started, settled, settled_at, granted, skipped, waiting}
-use Rattle.lk_rows.specs.Row.{Lead, Goes, Enters, Granted, Freed, Missed, Done, TakesWait, Leaves, Yields, moved, gone}
+use Rattle.std.proofs.Common.{◌≡◌, ◌≢◌, ◌⊎◌, inl, inr, ℕ, ◌<◌, ◌+◌, Option, Some, None, Bool, true}
+use Rattle.std.proofs.Common.{false, refl, sym, ap, ◌∙◌, subst, arith, List, [], ◌∷◌, slice_get}
+use Rattle.std.proofs.Common.{zero, suc, get_or, set, if◌then◌else◌, ◌==◌}
+use Rattle.lk_progress.proofs.Names.{NodeName, same_waiter, LockName, Mode, Waiter, CpuState}
+use Rattle.lk_progress.proofs.Names.{HasTop, Machine, halted_at, handlers_at, kicked_at, no_cpu}
+use Rattle.lk_progress.proofs.Names.{rw_at, top_of, word_at, program_of, settled, started, Done}
+use Rattle.lk_progress.proofs.Names.{Enters, Freed, Goes, Granted, Lead, Leaves, Missed, TakesWait}
+use Rattle.lk_progress.proofs.Names.{Yields, gone, moved, Frame, Node, Pc, Op, is_set, IsThen}
+use Rattle.lk_progress.proofs.Names.{world, led, World, same_changed_all, has_top_same}
+use Rattle.lk_progress.proofs.Names.{same_set_top, seated, world-set_top}
+use Rattle.lk_rows.specs.Machine.{frame_at, set_top, set_node, pop, rest_node, cpu_at, node_at}
+use Rattle.lk_rows.specs.{Machine.set_cpu, Moves.{settled_at, granted, skipped, waiting}}
 use Rattle.lk_rows.specs.Row.{entered, changed_all}
-use Rattle.lk_law.specs.Premises.{IsThen}
-use Rattle.lk_law.specs.Sound.{world}
-use Rattle.lk_law.specs.Steps.{led}
-use Rattle.lk_law.specs.World.{World}
-use Rattle.lk_core.proofs.Seated.{seated, world-set_top, world-pop, word-set_cpu, rw-set_cpu}
-use Rattle.lk_core.proofs.Worlds.{frame-set_node, kicked-set_node, halted-set_node}
-use Rattle.lk_core.proofs.Same.{top_same, has_top_same, same_set_node, same_set_top, handlers_pop}
-use Rattle.lk_core.proofs.LeadsOut.{done_is, missed_is, left, left_world, left_frames, left_same, left_ready, leave_is}
 use Rattle.lk_core.proofs.Leads.{granted_led}
-use Rattle.lk_core.proofs.Moved.{Ready, same_changed_all}
+use Rattle.lk_core.proofs.LeadsOut.{done_is, missed_is, left, left_world, left_frames, left_same}
+use Rattle.lk_core.proofs.{LeadsOut.{left_ready, leave_is}, Moved.Ready}
+use Rattle.lk_core.proofs.Same.{top_same, same_set_node, handlers_pop}
+use Rattle.lk_core.proofs.Seated.{world-pop, word-set_cpu, rw-set_cpu}
+use Rattle.lk_core.proofs.Worlds.{frame-set_node, kicked-set_node, halted-set_node}
 
 -- one frame changes, and no word
 pub record Follows (n k : Machine) (w : Waiter) (o : Option Frame) : Type 0 where

@@ -1,15 +1,13 @@
 -- A list in which nobody stands twice is no longer than there are contexts.
-use Rattle.std.proofs.Common.{◌≡◌, ℕ, ◌+◌, ◌*◌, ◌<◌, ◌≤◌, Some, true, eqb, List, map, length, get_or, slice_get}
-use Rattle.std.proofs.Common.{arith, ap, sym, ◌∙◌}
-use Rattle.std.specs.List.{IsDistinct, All}
-use Rattle.std.proofs.lemmas.Bool.{eqb-true, ne_eqb}
-use Rattle.std.proofs.lemmas.Option.{slice_get-get_or}
-use Rattle.std.proofs.lemmas.List.{get_or-map, length-map}
-use Rattle.std.proofs.lemmas.List.Elements.{All-map}
-use Rattle.std.proofs.lemmas.List.Folds.{Any-from_list_any}
+use Rattle.std.proofs.Common.{◌≡◌, ℕ, ◌+◌, ◌*◌, ◌<◌, ◌≤◌, Some, true, eqb, List, map, length}
+use Rattle.std.proofs.Common.{get_or, slice_get, arith, ap, sym, ◌∙◌}
+use Rattle.std.proofs.{lemmas.Bool.ne_eqb, lemmas.List.{get_or-map, length-map}}
+use Rattle.std.proofs.{lemmas.List.Elements.All-map, lemmas.List.Folds.Any-from_list_any}
 use Rattle.std.proofs.lemmas.Map.Keys.{IsDistinct-from_apart}
 use Rattle.std.proofs.lemmas.Map.Steps.{length-le_from_distinct_below}
-use Rattle.lk_names.specs.declared.names.Waiter.{Waiter}
+use Rattle.std.proofs.lemmas.Option.{slice_get-get_or}
+use Rattle.std.specs.List.{IsDistinct, All}
+use Rattle.lk_progress.proofs.Names.{eqb-true, Waiter}
 
 -- the number of a context, of the six of each processor
 abbrev number : Waiter → ℕ

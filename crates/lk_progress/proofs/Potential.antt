@@ -1,51 +1,27 @@
 -- A step that leads a frame on lowers the potential, or makes a row of a turn.
-use Rattle.std.proofs.Common.{◌≡◌, ◌≢◌, ◌⊎◌, inl, inr, ℕ, ◌<◌, ◌≤◌, ◌+◌, ◌-◌, ◌*◌, Option, Some, None, Bool}
-use Rattle.std.proofs.Common.{true, false, refl, sym, ap, ◌∙◌, subst, arith, length}
-use Rattle.std.proofs.lemmas.Option.{slice_get_within}
-use Rattle.std.specs.Prelude.{if◌then◌else◌}
-use Rattle.lk_names.specs.History.{LockHistory}
-use Rattle.lk_names.specs.declared.names.Mode.{Mode}
-use Rattle.lk_names.specs.declared.names.Waiter.{Waiter}
-use Rattle.lk_names.specs.declared.names.LockName.{LockName}
-use Rattle.lk_names.specs.declared.events.Act.TheVariants as act
-use Rattle.lk_rows.specs.declared.setup.Setup.{Setup}
-use Rattle.lk_rows.specs.declared.parts.Frame.{Frame}
-use Rattle.lk_rows.specs.declared.parts.Pc.{Pc}
-use Rattle.lk_rows.specs.Machine.{Machine, frame_at, top_of, top_frame, preempted_at, halted_at, handlers_at, node_at, depth_at, HasTop, word_at, rw_at}
-use Rattle.lk_rows.specs.Moves.{program_of, started}
-use Rattle.lk_rows.specs.Row.{Lead, Goes, Enters, Granted, Freed, Missed, Done, TakesWait, Leaves, Yields, moved, gone}
-use Rattle.lk_rows.specs.TopRow.{row, row_at, target}
-use Rattle.lk_rows.specs.Acts.{next, idle, step_halted}
-use Rattle.lk_law.specs.Agree.{halts}
-use Rattle.lk_law.specs.Cna.{moves_aside}
-use Rattle.lk_law.specs.Families.{may_halt}
-use Rattle.lk_law.specs.Leads.{course_in, stored_in}
-use Rattle.lk_law.specs.Sound.{ShowsAll, world, Works}
-use Rattle.lk_law.specs.SoundWorld.{spin_part}
-use Rattle.lk_law.specs.Steps.{led}
-use Rattle.lk_law.proofs.common.Knows.{nobody_halts}
-use Rattle.lk_law.proofs.common.Puts.{not-true, same_waiter-else}
-use Rattle.lk_law.proofs.common.Sames.{same_waiter-self}
-use Rattle.lk_core.proofs.Moved.{same_changed_all}
-use Rattle.lk_core.proofs.RowKept.{top_live}
-use Rattle.lk_core.proofs.Setups.{setup_kept}
-use Rattle.lk_core.proofs.ActKept.{act_kept}
-use Rattle.lk_progress.specs.Measure.{left_in, most_rows, is_turn, turn_of, goes, TurnGoesOn, TurnStays, AreContexts}
-use Rattle.lk_progress.specs.Spots.{TurnsOnTheSpot}
-use Rattle.lk_progress.specs.Potential.{weight_of, sum_below, cpu_weight, potential, cpu_turns, turns}
+use Rattle.std.proofs.Common.{◌≡◌, ◌≢◌, ◌⊎◌, inl, inr, ℕ, ◌<◌, ◌≤◌, ◌+◌, ◌-◌, ◌*◌, Option, Some}
+use Rattle.std.proofs.Common.{None, Bool, true, false, refl, sym, ap, ◌∙◌, subst, arith, length}
+use Rattle.std.proofs.Common.{if◌then◌else◌}
+use Rattle.lk_progress.proofs.Names.{cases_lt, slice_get_within, NodeName, LockHistory, LockName}
+use Rattle.lk_progress.proofs.Names.{Mode, Waiter, idle, next, step_halted, HasTop, Machine}
+use Rattle.lk_progress.proofs.Names.{halted_at, handlers_at, rw_at, top_frame, top_of, word_at}
+use Rattle.lk_progress.proofs.Names.{program_of, started, Done, Enters, Freed, Goes, Granted, Lead}
+use Rattle.lk_progress.proofs.Names.{Leaves, Missed, TakesWait, Yields, gone, moved, row, row_at}
+use Rattle.lk_progress.proofs.Names.{target, Frame, Pc, Setup, waiter_cases, nobody_halts, not-true}
+use Rattle.lk_progress.proofs.Names.{same_waiter-else, same_waiter-self, halts, moves_aside}
+use Rattle.lk_progress.proofs.Names.{may_halt, course_in, stored_in, ShowsAll, Works, world}
+use Rattle.lk_progress.proofs.Names.{spin_part, led, World, above_top, frame_within, act_kept}
+use Rattle.lk_progress.proofs.Names.{same_changed_all, top_live, has_top_same, world-set_top}
+use Rattle.lk_progress.proofs.Names.{setup_kept, goes, is_turn, left_in, turn_of, cpu_turns}
+use Rattle.lk_progress.proofs.Names.{sum_below, turns, TurnsOnTheSpot}
+use Rattle.lk_rows.specs.Machine.{frame_at, preempted_at, node_at, depth_at}
 use Rattle.lk_progress.proofs.Descends.{row_descends, begin_is_short}
-use Rattle.lk_progress.proofs.Moves.{Moves, Settles, Turned}
-use Rattle.lk_progress.proofs.Rows.{Put, row_moves, row_made}
-use Rattle.lk_progress.proofs.Still.{stays_same}
-use Rattle.lk_progress.proofs.Sums.{total_same, total_less, times_less}
-use Rattle.std.proofs.lemmas.Bool.{cases_lt}
-use Rattle.lk_word.specs.declared.spin_word.NodeName.{NodeName}
-use Rattle.lk_core.proofs.Access.{above_top, frame_within}
-use Rattle.lk_core.proofs.Same.{has_top_same}
-use Rattle.lk_core.proofs.Seated.{world-set_top}
+use Rattle.lk_progress.proofs.{Moves.{Moves, Settles, Turned}, Rows.{Put, row_moves, row_made}}
+use Rattle.lk_progress.proofs.{Still.stays_same, Sums.{total_same, total_less, times_less}}
 use Rattle.lk_progress.proofs.Turned.{turn_same}
-use Rattle.lk_law.proofs.common.Cases.{waiter_cases}
-use Rattle.lk_law.specs.World.{World}
+use Rattle.lk_progress.specs.Measure.{most_rows, TurnGoesOn, TurnStays, AreContexts}
+use Rattle.lk_progress.specs.Potential.{weight_of, cpu_weight, potential}
+use Rattle.lk_names.specs.declared.events.Act.TheVariants as act
 
 -- the step of a processor, which leads from m to n, is a row of a turn
 pub record Turning (m n : Machine) (p : ℕ) : Type 0 where

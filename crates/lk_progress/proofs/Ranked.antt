@@ -1,38 +1,25 @@
 -- The world of a machine of an ordered setup is ranked, and tidy.
-use Rattle.std.proofs.Common.{◌≡◌, ◌≢◌, ◌⊎◌, inl, inr, ℕ, zero, suc, ◌<◌, ◌≤◌, ◌+◌, ◌*◌, Option, Some, None, Bool}
-use Rattle.std.proofs.Common.{true, false, refl, sym, ap, ◌∙◌, subst, arith, List, [], ◌∷◌, length, slice_get}
-use Rattle.std.proofs.lemmas.Bool.{cases_Bool, cases_lt, eqb-true}
-use Rattle.std.proofs.lemmas.Option.{slice_get_past}
-use Rattle.std.proofs.lemmas.List.{get_or_past}
-use Rattle.std.specs.Prelude.{if◌then◌else◌, ◌==◌, ◌&&◌, ◌||◌}
-use Rattle.lk_names.specs.History.{LockHistory}
+use Rattle.std.proofs.Common.{◌≡◌, ◌≢◌, ◌⊎◌, inl, inr, ℕ, zero, suc, ◌<◌, ◌≤◌, ◌+◌, ◌*◌, Option}
+use Rattle.std.proofs.Common.{Some, None, Bool, true, false, refl, sym, ap, ◌∙◌, subst, arith, List}
+use Rattle.std.proofs.Common.{[], ◌∷◌, length, slice_get, if◌then◌else◌, ◌==◌, ◌&&◌, ◌||◌}
+use Rattle.std.proofs.{lemmas.List.get_or_past, lemmas.Option.slice_get_past}
+use Rattle.lk_progress.proofs.Names.{cases_Bool, cases_lt, eqb-true, LockHistory, Reads, Spins}
+use Rattle.lk_progress.proofs.Names.{LockName, Mode, Cna, Native, Pv, Virt, Waiter, Machine, no_cpu}
+use Rattle.lk_progress.proofs.Names.{program_of, program_at, Frame, Pc, R2, R3, R4, Op, Verb, Lock}
+use Rattle.lk_progress.proofs.Names.{RUnlock, Read, Try, TryRead, TryWrite, Unlock, WUnlock, Write}
+use Rattle.lk_progress.proofs.Names.{BelongsTo, Footing, ShowsAll, Works, world, Freeing, Owing}
+use Rattle.lk_progress.proofs.Names.{Sharing, Spinning, Waiting, level_of, polls, IsOrdered}
+use Rattle.lk_progress.proofs.Names.{IsSteady}
 use Rattle.lk_names.specs.declared.holder.Manner.{Manner}
-use Rattle.lk_names.specs.declared.holder.Manner.TheVariants.{Spins, Reads}
-use Rattle.lk_names.specs.declared.names.Mode.{Mode}
-use Rattle.lk_names.specs.declared.names.Mode.TheVariants.{Virt, Native, Cna, Pv}
-use Rattle.lk_names.specs.declared.names.Waiter.{Waiter}
-use Rattle.lk_names.specs.declared.names.LockName.{LockName}
-use Rattle.lk_rows.specs.declared.setup.Op.{Op}
-use Rattle.lk_rows.specs.declared.setup.Verb.{Verb}
-use Rattle.lk_rows.specs.declared.setup.Verb.TheVariants.{Lock, Try, Unlock, Read, TryRead}
-use Rattle.lk_rows.specs.declared.setup.Verb.TheVariants.{RUnlock, Write, TryWrite, WUnlock}
-use Rattle.lk_rows.specs.declared.parts.Frame.{Frame}
-use Rattle.lk_rows.specs.declared.parts.Pc.{Pc}
-use Rattle.lk_rows.specs.Machine.{Machine, frame_at, cpu_at, depth_at, no_cpu}
-use Rattle.lk_rows.specs.Moves.{program_of, rw_name}
-use Rattle.lk_rows.specs.Programs.{program_at, way_at, way_from, op_way, way_after}
-use Rattle.lk_law.specs.Families.{is_rw_row, is_release_row}
-use Rattle.lk_law.specs.Premises.{IsShallow}
+use Rattle.lk_rows.specs.{Machine.{frame_at, cpu_at, depth_at}, Moves.rw_name}
+use Rattle.lk_rows.specs.Programs.{way_at, way_from, op_way, way_after}
+use Rattle.lk_law.specs.{Families.{is_rw_row, is_release_row}, Premises.IsShallow}
 use Rattle.lk_law.specs.RwPhase.{RwPhase, is_inner}
+use Rattle.lk_law.specs.Sound.{RwBelongs, held_of, held_at, reached, is_over, frees, owes_kick}
+use Rattle.lk_law.specs.Sound.{takes_wait, after_wait}
 use Rattle.lk_law.specs.SoundWorld.{rw_phase_of, rw_phase_if, rw_phase_at}
-use Rattle.lk_law.specs.Sound.{ShowsAll, Works, Footing, BelongsTo, RwBelongs, world, held_of, held_at}
-use Rattle.lk_law.specs.Sound.{reached, is_over, frees, owes_kick, takes_wait}
-use Rattle.lk_law.specs.Sound.Footing.{Spinning, Sharing, Waiting, Freeing, Owing}
-use Rattle.lk_waits.specs.Waits.{polls, lock_at, IsTop}
-use Rattle.lk_waits.specs.Order.{IsTidy, IsRanked, HoldsInside, level_of}
-use Rattle.lk_progress.specs.Ordered.{IsOrdered, IsSteady, waits_for, only_reads}
-use Rattle.lk_rows.specs.declared.parts.Pc.TheVariants.{R2, R3, R4}
-use Rattle.lk_law.specs.Sound.{after_wait}
+use Rattle.lk_waits.specs.{Order.{IsTidy, IsRanked, HoldsInside}, Waits.{lock_at, IsTop}}
+use Rattle.lk_progress.specs.Ordered.{waits_for, only_reads}
 
 -- who polls is in an operation that waits
 polls_wait : (mode : Mode) (v : Verb) (f : Frame) (c : Pc) → polls c ≡ true → Footing mode v f c → waits_for v ≡ true

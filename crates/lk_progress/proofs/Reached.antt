@@ -1,61 +1,29 @@
 -- The machine after any acts from rest: it shows its history, is steady, and has kept what is true of heads.
 use Rattle.std.proofs.Common.{◌≡◌, inl, inr, ℕ, zero, suc, ◌<◌, ◌≤◌, ◌+◌, Option, Some, None, Bool}
-use Rattle.std.proofs.Common.{true, false, refl, sym, ap, ◌∙◌, subst, arith, List, [], ◌∷◌, length, slice_get}
-use Rattle.std.proofs.lemmas.Bool.{cases_lt}
-use Rattle.std.specs.Prelude.{if◌then◌else◌}
-use Rattle.lk_names.specs.Names.{same_waiter}
-use Rattle.lk_names.specs.History.{LockHistory, history_of}
-use Rattle.lk_names.specs.declared.names.Mode.{Mode}
-use Rattle.lk_names.specs.declared.names.Mode.TheVariants.{Virt}
-use Rattle.lk_names.specs.declared.names.Waiter.{Waiter}
-use Rattle.lk_names.specs.declared.names.LockName.{LockName}
-use Rattle.lk_names.specs.declared.events.Act.{Act}
-use Rattle.lk_names.specs.declared.events.Act.TheVariants as act
-use Rattle.lk_names.specs.declared.events.Event.{Event}
-use Rattle.lk_rows.specs.declared.setup.Op.{Op}
-use Rattle.lk_rows.specs.declared.setup.Setup.{Setup}
-use Rattle.lk_rows.specs.declared.setup.Verb.{Verb}
-use Rattle.lk_rows.specs.declared.setup.Verb.TheVariants.{Lock, Try, Unlock, Read, TryRead}
-use Rattle.lk_rows.specs.declared.setup.Verb.TheVariants.{RUnlock, Write, TryWrite, WUnlock}
-use Rattle.lk_rows.specs.declared.parts.Frame.{Frame}
-use Rattle.lk_rows.specs.declared.parts.Pc.{Pc}
-use Rattle.lk_rows.specs.declared.parts.Pc.TheVariants.{G1}
-use Rattle.lk_rows.specs.Machine.{Machine, frame_at, top_of, top_frame, depth_at, queued_at, cpu_at}
-use Rattle.lk_rows.specs.Machine.{preempted_at, halted_at}
-use Rattle.lk_rows.specs.Moves.{started, first_place, program_of}
-use Rattle.lk_rows.specs.Programs.{IsLawfulSetup, handlers_of, program_at}
-use Rattle.lk_rows.specs.TopRow.{row, target}
-use Rattle.lk_rows.specs.Acts.{next, idle, step_halted}
-use Rattle.lk_rows.specs.Run.{at_rest, machine_after, first_frame}
-use Rattle.lk_law.specs.Agree.{halts}
-use Rattle.lk_law.specs.Families.{is_slow}
-use Rattle.lk_law.specs.Kicked.{with_event}
-use Rattle.lk_law.specs.Leads.{course_in, stored_in}
-use Rattle.lk_law.specs.MachineLaws.{AreInRange, ShowsLawful}
-use Rattle.lk_law.specs.Places.{slow_in}
-use Rattle.lk_law.specs.Snapshot.{before}
-use Rattle.lk_law.specs.Sound.{world, ShowsAll, Footing, BelongsTo, Works}
-use Rattle.lk_law.specs.Sound.Footing.{Spinning, Sharing, Waiting, Freeing, Owing}
-use Rattle.lk_law.specs.SoundWorld.{spin_part}
-use Rattle.lk_law.specs.Steps.{led}
-use Rattle.lk_law.specs.World.{World}
-use Rattle.lk_law.proofs.common.Knows.{nobody_halts}
-use Rattle.lk_law.proofs.common.Puts.{if-true}
-use Rattle.lk_law.proofs.common.Sames.{same_waiter-self}
-use Rattle.lk_law.proofs.running.Leads.{row_is_done}
-use Rattle.lk_core.proofs.Access.{above_top, frame_within}
-use Rattle.lk_core.proofs.Rest.{frames}
-use Rattle.lk_core.proofs.RowKept.{top_live}
-use Rattle.lk_core.proofs.Runs.{acts_keep, rest_shows}
-use Rattle.lk_core.proofs.Setups.{setup_kept}
+use Rattle.std.proofs.Common.{true, false, refl, sym, ap, ◌∙◌, subst, arith, List, [], ◌∷◌, length}
+use Rattle.std.proofs.Common.{slice_get, if◌then◌else◌}
+use Rattle.lk_progress.proofs.Names.{cases_lt, LockHistory, history_of, same_waiter, Act, Event}
+use Rattle.lk_progress.proofs.Names.{LockName, Mode, Virt, Waiter, idle, next, step_halted, Machine}
+use Rattle.lk_progress.proofs.Names.{halted_at, queued_at, top_frame, top_of, first_place}
+use Rattle.lk_progress.proofs.Names.{program_of, started, IsLawfulSetup, handlers_of, program_at}
+use Rattle.lk_progress.proofs.Names.{at_rest, first_frame, machine_after, row, target, Frame, Pc}
+use Rattle.lk_progress.proofs.Names.{G1, Op, Setup, Verb, Lock, RUnlock, Read, Try, TryRead}
+use Rattle.lk_progress.proofs.Names.{TryWrite, Unlock, WUnlock, Write, nobody_halts, if-true}
+use Rattle.lk_progress.proofs.Names.{same_waiter-self, row_is_done, halts, with_event, course_in}
+use Rattle.lk_progress.proofs.Names.{stored_in, ShowsLawful, BelongsTo, Footing, ShowsAll, Works}
+use Rattle.lk_progress.proofs.Names.{world, Freeing, Owing, Sharing, Spinning, Waiting, spin_part}
+use Rattle.lk_progress.proofs.Names.{led, World, IsQuietFrame, above_top, frame_within, frames}
+use Rattle.lk_progress.proofs.Names.{top_live, acts_keep, rest_shows, setup_kept, IsSteady}
+use Rattle.lk_progress.proofs.Names.{IsFinished}
+use Rattle.lk_rows.specs.Machine.{frame_at, depth_at, cpu_at, preempted_at}
+use Rattle.lk_law.specs.{Families.is_slow, MachineLaws.AreInRange, Places.slow_in, Snapshot.before}
+use Rattle.lk_waits.proofs.Quiet.{IsQuietRow, first_quiet}
 use Rattle.lk_waits.specs.Waits.{IsTop}
-use Rattle.lk_waits.specs.Waits as waits
-use Rattle.lk_progress.proofs.Moves.{Moves, Settles, Turned}
+use Rattle.lk_progress.proofs.{Good.{IsGood, IsKept, act_good}, Moves.{Moves, Settles, Turned}}
 use Rattle.lk_progress.proofs.Rows.{Put, row_moves}
-use Rattle.lk_progress.specs.Ordered.{IsSteady}
-use Rattle.lk_progress.specs.Runs.{HasRoom, IsFinished}
-use Rattle.lk_progress.proofs.Good.{IsGood, IsKept, act_good}
-use Rattle.lk_waits.proofs.Quiet.{IsQuietRow, IsQuietFrame, first_quiet}
+use Rattle.lk_progress.specs.Runs.{HasRoom}
+use Rattle.lk_names.specs.declared.events.Act.TheVariants as act
+use Rattle.lk_waits.specs.Waits as waits
 
 first_frame_quiet : (mode : Mode) (o : Option Op) → IsQuietFrame (first_frame mode o)
 first_frame_quiet mode None c p = absurd (let z : None ≡ Some c = p in cc z)

@@ -1,46 +1,27 @@
 -- A reader in an interrupt takes no wait lock: it waits for the writer alone.
-use Rattle.std.proofs.Common.{◌≡◌, ◌≢◌, ◌<◌, arith, ◌<◌, inl, inr, ℕ, Option, Some, None, Bool, true, false}
-use Rattle.std.proofs.Common.{refl, sym, ap, ◌∙◌, List, [], arith}
-use Rattle.std.proofs.lemmas.Bool.{cases_Bool}
-use Rattle.std.specs.Prelude.{if◌then◌else◌, is_some, ◌&&◌, not, ◌==◌, ◌-◌}
-use Rattle.lk_names.specs.declared.names.Mode.{Mode}
-use Rattle.lk_names.specs.declared.names.Mode.TheVariants.{Virt, Native, Cna, Pv}
-use Rattle.lk_names.specs.declared.names.Waiter.{Waiter}
-use Rattle.lk_names.specs.declared.names.LockName.{LockName}
-use Rattle.lk_word.specs.declared.spin_word.NodeName.{NodeName}
-use Rattle.lk_word.specs.declared.spin_word.Fields.{Fields}
-use Rattle.lk_word.specs.declared.rw_word.RwFields.{RwFields}
-use Rattle.lk_rows.specs.declared.parts.Flag.{Flag}
+use Rattle.std.proofs.Common.{◌≡◌, ◌≢◌, ◌<◌, arith, inl, inr, ℕ, Option, Some, None, Bool, true}
+use Rattle.std.proofs.Common.{false, refl, sym, ap, ◌∙◌, List, [], if◌then◌else◌, is_some, ◌&&◌}
+use Rattle.std.proofs.Common.{not, ◌==◌, ◌-◌, ◌∷◌}
+use Rattle.lk_progress.proofs.Names.{cases_Bool, RwFields, Fields, NodeName, LockName, Mode, Cna}
+use Rattle.lk_progress.proofs.Names.{Native, Pv, Virt, Waiter, is_node, node_of, Done, Effect}
+use Rattle.lk_progress.proofs.Names.{Enters, Freed, Goes, Granted, Lead, Leaves, Missed, TakesWait}
+use Rattle.lk_progress.proofs.Names.{Yields, target, Flag, Frame, Pc, C1, C2, C3, C4, C5, C6, C7}
+use Rattle.lk_progress.proofs.Names.{C8, C9, C10, E1, E2, E3, E4, E5, E6, E7, E8, E9, E10, E11, E12}
+use Rattle.lk_progress.proofs.Names.{E13, E14, E15, F1, G1, G2, G3, G4, G5, G6, G7, G8, G9, G10}
+use Rattle.lk_progress.proofs.Names.{G11, H1, H2, K1, K2, K3, N1, N2, P0, P1, P2, P3, P4, R1, R2}
+use Rattle.lk_progress.proofs.Names.{R3, R4, R5, T1, T2, U1, U2, U3, U4, U5, V1, V2, W1, W2, W3, W4}
+use Rattle.lk_progress.proofs.Names.{W5, W6, W7, Wr1, Wr2, Wr3, Wr4, Wr5, Wr6, Y1, Y2, Y3, Y4, Y5}
+use Rattle.lk_progress.proofs.Names.{Z1, Z2, Why, after_tail, is_held, is_last, may_stay}
+use Rattle.lk_progress.proofs.Names.{search_first, search_on, after_given_up, after_glance}
+use Rattle.lk_progress.proofs.Names.{is_halted, is_running, is_set, is_slow_byte, pv_after_next}
+use Rattle.lk_progress.proofs.Names.{after_arrival, after_entry, after_flag, after_head, after_link}
+use Rattle.lk_progress.proofs.Names.{after_next, is_sole, own_node, frees_wait, is_cleared}
+use Rattle.lk_progress.proofs.Names.{is_empty, is_open, after_fast, is_free, is_unlocked, to_queue}
+use Rattle.lk_progress.proofs.Names.{course_in, IsThen, led, sight_in, World, same_changed_all}
+use Rattle.lk_progress.proofs.Names.{ReadsAlone}
+use Rattle.lk_rows.specs.Row.{Change}
 use Rattle.lk_rows.specs.declared.parts.Flag.TheVariants as flag
-use Rattle.lk_rows.specs.declared.parts.Frame.{Frame}
-use Rattle.lk_rows.specs.declared.parts.Pc.{Pc}
-use Rattle.lk_rows.specs.declared.parts.Pc.TheVariants.{F1, T1, T2, U1, V1, V2, P0, P1, P2, P3}
-use Rattle.lk_rows.specs.declared.parts.Pc.TheVariants.{P4, G1, G2, G3, G4, G5, G6, G7, G8, G9}
-use Rattle.lk_rows.specs.declared.parts.Pc.TheVariants.{G10, G11, N1, N2, C1}
-use Rattle.lk_rows.specs.declared.parts.Pc.TheVariants.{R1, R2, R3, R4, R5, Wr1, Wr2, Wr3, Wr4}
-use Rattle.lk_rows.specs.declared.parts.Pc.TheVariants.{Wr5, Wr6, Y1, Y2, Y3, Y4, Y5, Z1, Z2}
-use Rattle.lk_rows.specs.Moves.{is_node, node_of}
-use Rattle.lk_rows.specs.Row.{Effect, Lead, Goes, Enters, Granted, Freed, Missed, Done, TakesWait, Leaves, Yields, Change}
-use Rattle.lk_core.proofs.Moved.{same_changed_all}
-use Rattle.lk_progress.specs.Ordered.{ReadsAlone}
-use Rattle.lk_rows.specs.declared.parts.Pc.TheVariants.{C2, C3, C4, C5, C6, C7, C8, C9, C10}
-use Rattle.lk_rows.specs.declared.parts.Pc.TheVariants.{H1, H2, W1, W2, W3, W4, W5, W6, W7, E1, E2, E3, E4, E5, E6, E7}
-use Rattle.lk_rows.specs.declared.parts.Pc.TheVariants.{E8, E9, E10, E11, E12, E13, E14, E15, K1, K2, K3, U2, U3, U4, U5}
-use Rattle.lk_rows.specs.declared.parts.Why.{Why}
 use Rattle.lk_rows.specs.declared.parts.Why.TheVariants as why
-use Rattle.std.proofs.Common.{◌∷◌}
-use Rattle.lk_rows.specs.rows.Pv.{is_set, is_running, is_halted, is_slow_byte, after_glance, after_given_up, pv_after_next}
-use Rattle.lk_rows.specs.rows.Cna.{is_held, search_first, search_on, after_tail, may_stay, is_last}
-use Rattle.lk_law.specs.Steps.{sight_in}
-use Rattle.lk_rows.specs.rows.Spin.{is_free, is_unlocked, to_queue, after_fast}
-use Rattle.lk_rows.specs.rows.Queue.{is_sole, own_node, after_entry, after_arrival}
-use Rattle.lk_rows.specs.rows.Queue.{after_head, after_flag, after_next, after_link}
-use Rattle.lk_rows.specs.rows.Rw.{is_empty, is_open, is_cleared, frees_wait}
-use Rattle.lk_rows.specs.TopRow.{target}
-use Rattle.lk_law.specs.Leads.{course_in}
-use Rattle.lk_law.specs.Premises.{IsThen}
-use Rattle.lk_law.specs.Steps.{led}
-use Rattle.lk_law.specs.World.{World}
 
 -- the place at which a task's reader takes its bias back
 abbrev pub tells : Option Pc → Bool

@@ -1,50 +1,35 @@
 -- A row of a machine: its store, and how it moves the frame.
-use Rattle.std.proofs.Common.{◌≡◌, inl, inr, ℕ, ◌<◌, Option, Some, None}
-use Rattle.std.proofs.Common.{true, refl, sym, ap, ◌∙◌, subst, arith, List, [], ◌∷◌, length, zero, suc, set, get_or}
-use Rattle.std.proofs.lemmas.Option.{slice_get_within}
-use Rattle.lk_names.specs.History.{LockHistory}
-use Rattle.lk_names.specs.declared.names.Waiter.{Waiter}
-use Rattle.lk_names.specs.declared.names.LockName.{LockName}
-use Rattle.lk_word.specs.declared.spin_word.NodeName.{NodeName}
-use Rattle.lk_rows.specs.declared.parts.Flag.{Flag}
-use Rattle.lk_rows.specs.declared.parts.State.{State}
-use Rattle.lk_rows.specs.declared.parts.Frame.{Frame}
-use Rattle.lk_rows.specs.declared.parts.Node.{Node}
-use Rattle.lk_rows.specs.declared.parts.Pc.{Pc}
-use Rattle.lk_rows.specs.declared.parts.Pc.TheVariants.{U5}
-use Rattle.lk_rows.specs.Machine.{Machine, frame_at, word_at, set_node, cpu_at, top_of, node_at, queued_at, top_frame, rw_at}
-use Rattle.lk_rows.specs.Machine.{entry_at, halted_at, kicked_at, rest_node, CpuState, no_cpu, set_cpu}
-use Rattle.lk_rows.specs.Programs.{kind_of}
-use Rattle.lk_rows.specs.Row.{Lead, moved, counted, event_of}
+use Rattle.std.proofs.Common.{◌≡◌, inl, inr, ℕ, ◌<◌, Option, Some, None, true, refl, sym, ap, ◌∙◌}
+use Rattle.std.proofs.Common.{subst, arith, List, [], ◌∷◌, length, zero, suc, set, get_or}
+use Rattle.lk_progress.proofs.Names.{slice_get_within, NodeName, LockHistory, LockName, Waiter}
+use Rattle.lk_progress.proofs.Names.{CpuState, Machine, halted_at, kicked_at, no_cpu, queued_at}
+use Rattle.lk_progress.proofs.Names.{rw_at, top_frame, top_of, word_at, node_of, Lead, moved, row}
+use Rattle.lk_progress.proofs.Names.{row_at, row_on, target, Flag, Frame, Node, Pc, U5, State}
+use Rattle.lk_progress.proofs.Names.{Sight, is_set, rw_row, if-false, if-true, course_in, stored_in}
+use Rattle.lk_progress.proofs.Names.{IsThen, ShowsAll, Works, world, led, stores_next, stores_state}
+use Rattle.lk_progress.proofs.Names.{World, frame_within, KeepsFrames, same_then}
+use Rattle.lk_rows.specs.Machine.{frame_at, set_node, cpu_at, node_at, entry_at, rest_node, set_cpu}
+use Rattle.lk_rows.specs.{Programs.kind_of, Row.{counted, event_of}}
+use Rattle.lk_rows.specs.TopRow.{sight_at, stored_second, stored_runs, Target, SpinWord, QueueWord}
+use Rattle.lk_rows.specs.TopRow.{Queued, FlagOf, NextOf, ChoiceWord, ChoiceFlag, ChoiceNext}
+use Rattle.lk_rows.specs.TopRow.{SecondTailOf, RunsOf, PvWord, PvFlag, PvNext, StateOf, HashEntry}
+use Rattle.lk_rows.specs.TopRow.{Halted, KickOf, stored_state, stored_entry, stored_halted}
+use Rattle.lk_rows.specs.TopRow.{stored_kicked, RwWord, stored_word, stored_flag, stored_next}
+use Rattle.lk_rows.specs.TopRow.{stored_queued, stored_rw}
+use Rattle.lk_rows.specs.rows.Cna.{promotion_row, handover_row, search_row, second_row, runs_row}
+use Rattle.lk_rows.specs.rows.Pv.{pv_row, pv_flag_row, pv_next_row, state_row, hash_row, halt_row}
+use Rattle.lk_rows.specs.{rows.Pv.kick_row, rows.Queue.{queue_row, entry_row, flag_row, next_row}}
 use Rattle.lk_rows.specs.rows.Spin.{spin_row}
-use Rattle.lk_rows.specs.rows.Queue.{queue_row, entry_row, flag_row, next_row}
-use Rattle.lk_rows.specs.rows.Rw.{rw_row}
-use Rattle.lk_rows.specs.Moves.{node_of}
-use Rattle.lk_rows.specs.rows.Pv.{is_set, pv_row, pv_flag_row, pv_next_row, state_row, hash_row, halt_row, kick_row}
-use Rattle.lk_rows.specs.rows.Cna.{Sight, promotion_row, handover_row, search_row, second_row, runs_row}
-use Rattle.lk_rows.specs.TopRow.{sight_at, stored_second, stored_runs}
-use Rattle.lk_core.proofs.Sights.{sight_same}
-use Rattle.lk_rows.specs.TopRow.{Target, SpinWord, QueueWord, Queued, FlagOf, NextOf, ChoiceWord}
-use Rattle.lk_rows.specs.TopRow.{ChoiceFlag, ChoiceNext, SecondTailOf, RunsOf, PvWord, PvFlag, PvNext, StateOf}
-use Rattle.lk_rows.specs.TopRow.{HashEntry, Halted, KickOf, stored_state, stored_entry, stored_halted, stored_kicked}
-use Rattle.lk_rows.specs.TopRow.{target, RwWord, row, row_at, row_on}
-use Rattle.lk_rows.specs.TopRow.{stored_word, stored_flag, stored_next, stored_queued, stored_rw}
-use Rattle.lk_law.specs.Leads.{course_in, stored_in}
-use Rattle.lk_law.specs.Premises.{IsThen}
-use Rattle.lk_law.specs.Sound.{world, ShowsAll, Works}
+use Rattle.lk_law.proofs.common.Puts.{same_node-self, same_node-else}
 use Rattle.lk_law.specs.Snapshot.{same_node}
-use Rattle.lk_law.specs.Steps.{led, put_node, stores_flag, stores_next, stores_second, stores_runs, stores_state}
-use Rattle.lk_law.specs.World.{World}
-use Rattle.lk_law.proofs.common.Puts.{if-true, if-false, same_node-self, same_node-else}
-use Rattle.lk_core.proofs.Seated.{word-set_cpu}
+use Rattle.lk_law.specs.Steps.{put_node, stores_flag, stores_second, stores_runs}
+use Rattle.lk_core.proofs.{Moved.{Ready, ready_same}, RwMoved.rw_stored}
+use Rattle.lk_core.proofs.Same.{top_same, same_set_node, same_self, same_set_counts}
+use Rattle.lk_core.proofs.{Seated.word-set_cpu, Sights.sight_same}
+use Rattle.lk_core.proofs.Stores.{Stored, word_stored, queued_stored, entry_stored, halted_stored}
+use Rattle.lk_core.proofs.Stores.{kicked_stored}
 use Rattle.lk_core.proofs.Worlds.{frame-set_node, kicked-set_node, halted-set_node}
-use Rattle.lk_core.proofs.Same.{KeepsFrames, top_same, same_set_node, same_self}
-use Rattle.lk_core.proofs.Stores.{Stored, word_stored, queued_stored, entry_stored, halted_stored, kicked_stored}
-use Rattle.lk_core.proofs.Access.{frame_within}
-use Rattle.lk_core.proofs.RwMoved.{rw_stored}
-use Rattle.lk_core.proofs.Moved.{Ready, ready_same}
 use Rattle.lk_core.proofs.Worlds.{frame-set_counts, world-set_counts}
-use Rattle.lk_core.proofs.Same.{same_then, same_set_counts}
 use Rattle.lk_progress.proofs.Moves.{Moves, moved_is, flags-set_node, rw-set_node}
 
 -- n is m after a store: it has the frames of m, and the words, flags, kicks and halts of this world

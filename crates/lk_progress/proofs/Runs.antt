@@ -1,60 +1,32 @@
 -- No run of an ordered setup comes to a deadlock.
-use Rattle.std.proofs.Common.{◌≡◌, ◌≢◌, ◌⊎◌, inl, inr, ℕ, zero, suc, ◌<◌, ◌≤◌, ◌+◌, ◌*◌, Option, Some, None}
-use Rattle.std.proofs.Common.{true, false, refl, sym, ap, ◌∙◌, subst, arith, List, [], ◌∷◌, length}
-use Rattle.std.proofs.lemmas.Bool.{cases_lt}
-use Rattle.lk_names.specs.History.{LockHistory, history_of}
-use Rattle.lk_names.specs.declared.names.Mode.{Mode}
-use Rattle.lk_names.specs.declared.names.Mode.TheVariants.{Native}
-use Rattle.lk_names.specs.declared.names.Waiter.{Waiter}
-use Rattle.lk_names.specs.declared.names.LockName.{LockName}
-use Rattle.lk_names.specs.declared.events.Act.{Act}
-use Rattle.lk_names.specs.declared.events.Act.TheVariants as act
-use Rattle.lk_rows.specs.declared.setup.Setup.{Setup}
-use Rattle.lk_rows.specs.declared.setup.Verb.{Verb}
-use Rattle.lk_rows.specs.declared.setup.Verb.TheVariants.{Lock, Try, Unlock, Read, TryRead}
-use Rattle.lk_rows.specs.declared.setup.Verb.TheVariants.{RUnlock, Write, TryWrite, WUnlock}
-use Rattle.lk_rows.specs.declared.parts.Frame.{Frame}
-use Rattle.lk_rows.specs.declared.parts.Pc.{Pc}
-use Rattle.lk_rows.specs.declared.parts.Pc.TheVariants.{N1, N2, V1, V2, Wr5, Wr6, T1, T2, U1, C1, C2, C3, C10}
-use Rattle.lk_rows.specs.Machine.{Machine, frame_at, top_of, top_frame}
-use Rattle.lk_rows.specs.Machine.{preempted_at}
-use Rattle.lk_rows.specs.Moves.{program_of}
-use Rattle.lk_rows.specs.Programs.{IsLawfulSetup}
-use Rattle.lk_rows.specs.Acts.{next, processor_of}
-use Rattle.lk_rows.specs.Run.{at_rest, machine_after}
-use Rattle.lk_law.specs.Agree.{halts}
-use Rattle.lk_law.specs.Cna.{moves_aside}
-use Rattle.lk_law.specs.Families.{is_rw_row, chooses}
-use Rattle.lk_law.specs.Sound.{world, ShowsAll, Footing, BelongsTo, Works, is_lock_row}
-use Rattle.lk_law.specs.Sound.Footing.{Spinning, Sharing, Waiting, Freeing, Owing}
-use Rattle.lk_law.specs.Steps.{row_in}
-use Rattle.lk_law.proofs.common.Knows.{nobody_halts}
-use Rattle.lk_core.proofs.Access.{above_top, frame_within}
-use Rattle.lk_core.proofs.RowKept.{top_live}
-use Rattle.lk_core.proofs.Runs.{rest_shows}
-use Rattle.lk_waits.specs.Waits.{polls, IsStuck}
-use Rattle.lk_waits.specs.Waits as waits
-use Rattle.lk_progress.specs.Ordered.{IsOrdered}
-use Rattle.lk_waits.specs.Order.{level_of}
-use Rattle.lk_progress.specs.Runs.{IsFinished, HasRoom, StandsStill, OrderedRunsGoOn, SomebodyMoves, SomebodyMovesOn, RunsEnd, NativeRunsEnd}
-use Rattle.lk_progress.specs.Measure.{is_turn}
-use Rattle.lk_progress.specs.Potential.{budget, cost, price, turns, LeadsNobodyOn, HasChanges, TurnIsMade}
-use Rattle.lk_progress.specs.Spots.{TurnsOnTheSpot}
-use Rattle.lk_law.specs.World.{World}
-use Rattle.lk_waits.specs.Waits.{IsBarred}
-use Rattle.lk_progress.proofs.Budget.{acts_lower, price_falls, runs_are_short, changes_bounded}
-use Rattle.lk_progress.proofs.Turned.{rest_turns}
-use Rattle.lk_progress.proofs.Spot.{spot_or}
-use Rattle.lk_names.specs.declared.names.Kind.TheVariants.{Spin, Rw}
-use Rattle.std.specs.Prelude.{slice_index_or}
-use Rattle.lk_waits.proofs.Climb.{no_deadlock}
-use Rattle.lk_waits.specs.Followed.{IsHeadFollowed}
-use Rattle.lk_waits.proofs.Followed.{row_keeps_followed}
-use Rattle.lk_waits.proofs.Changed.{quietly_of}
-use Rattle.lk_progress.proofs.Good.{IsKept, IsAwake}
+use Rattle.std.proofs.Common.{◌≡◌, ◌≢◌, ◌⊎◌, inl, inr, ℕ, zero, suc, ◌<◌, ◌≤◌, ◌+◌, ◌*◌, Option}
+use Rattle.std.proofs.Common.{Some, None, true, false, refl, sym, ap, ◌∙◌, subst, arith, List, []}
+use Rattle.std.proofs.Common.{◌∷◌, length, slice_index_or}
+use Rattle.lk_progress.proofs.Names.{cases_lt, LockHistory, history_of, Act, Spin, LockName, Mode}
+use Rattle.lk_progress.proofs.Names.{Native, Waiter, next, processor_of, Machine, top_frame, top_of}
+use Rattle.lk_progress.proofs.Names.{program_of, IsLawfulSetup, at_rest, machine_after, Frame, Pc}
+use Rattle.lk_progress.proofs.Names.{C1, C2, C3, C10, N1, N2, T1, T2, U1, V1, V2, Wr5, Wr6, Setup}
+use Rattle.lk_progress.proofs.Names.{Verb, Lock, RUnlock, Read, Try, TryRead, TryWrite, Unlock}
+use Rattle.lk_progress.proofs.Names.{WUnlock, Write, nobody_halts, halts, moves_aside, chooses}
+use Rattle.lk_progress.proofs.Names.{BelongsTo, Footing, ShowsAll, Works, world, Freeing, Owing}
+use Rattle.lk_progress.proofs.Names.{Sharing, Spinning, Waiting, row_in, World, level_of, IsBarred}
+use Rattle.lk_progress.proofs.Names.{above_top, frame_within, top_live, rest_shows, is_turn}
+use Rattle.lk_progress.proofs.Names.{IsOrdered, price, turns, IsFinished, TurnsOnTheSpot}
+use Rattle.lk_names.specs.declared.names.Kind.TheVariants.{Rw}
+use Rattle.lk_rows.specs.Machine.{frame_at, preempted_at}
+use Rattle.lk_law.specs.{Families.is_rw_row, Sound.is_lock_row}
+use Rattle.lk_waits.proofs.{Changed.quietly_of, Climb.no_deadlock, Followed.row_keeps_followed}
 use Rattle.lk_waits.proofs.Quiet.{heads_stay, rests_followed}
-use Rattle.lk_progress.proofs.Reached.{Reached, start, reached, reached_from_rest, top_is, stuck_at, finished_by}
-use Rattle.lk_progress.proofs.Ranked.{tidy, ranked, inside}
+use Rattle.lk_waits.specs.{Followed.IsHeadFollowed, Waits.IsStuck}
+use Rattle.lk_progress.proofs.Budget.{acts_lower, price_falls, runs_are_short, changes_bounded}
+use Rattle.lk_progress.proofs.{Good.{IsKept, IsAwake}, Ranked.{tidy, ranked, inside}}
+use Rattle.lk_progress.proofs.Reached.{Reached, start, reached, reached_from_rest, top_is, stuck_at}
+use Rattle.lk_progress.proofs.{Reached.finished_by, Spot.spot_or, Turned.rest_turns}
+use Rattle.lk_progress.specs.Potential.{budget, cost, LeadsNobodyOn, HasChanges, TurnIsMade}
+use Rattle.lk_progress.specs.Runs.{HasRoom, StandsStill, OrderedRunsGoOn, SomebodyMoves}
+use Rattle.lk_progress.specs.Runs.{SomebodyMovesOn, RunsEnd, NativeRunsEnd}
+use Rattle.lk_names.specs.declared.events.Act.TheVariants as act
+use Rattle.lk_waits.specs.Waits as waits
 
 -- heads that wait for a successor are kept followed
 pub kept_followed : IsKept (IsAwake false) IsHeadFollowed

@@ -1,39 +1,22 @@
 -- No run of an ordered setup of the family that moves waiters aside comes to a deadlock.
-use Rattle.std.proofs.Common.{◌≡◌, ◌⊎◌, inl, inr, ℕ, ◌<◌, ◌+◌, ◌*◌, Option, Some, None}
-use Rattle.std.proofs.Common.{true, false, refl, sym, ap, ◌∙◌, subst, length}
-use Rattle.lk_names.specs.History.{LockHistory, history_of}
-use Rattle.lk_names.specs.declared.names.Waiter.{Waiter}
-use Rattle.lk_names.specs.declared.names.LockName.{LockName}
-use Rattle.lk_names.specs.declared.events.Act.TheVariants as act
-use Rattle.lk_rows.specs.declared.setup.Setup.{Setup}
-use Rattle.lk_rows.specs.declared.parts.Frame.{Frame}
-use Rattle.lk_rows.specs.declared.parts.Pc.{Pc}
-use Rattle.lk_rows.specs.Machine.{Machine, frame_at, top_of, top_frame}
-use Rattle.lk_rows.specs.Machine.{preempted_at}
-use Rattle.lk_rows.specs.Acts.{next}
-use Rattle.lk_rows.specs.Run.{at_rest, machine_after}
-use Rattle.lk_law.specs.Agree.{halts}
-use Rattle.lk_law.specs.Cna.{moves_aside}
-use Rattle.lk_law.specs.Sound.{world, ShowsAll}
-use Rattle.lk_core.proofs.Access.{above_top, frame_within}
-use Rattle.lk_core.proofs.RowKept.{top_live}
-use Rattle.lk_waits.specs.Waits.{IsAtBay, IsBarred}
-use Rattle.lk_waits.specs.Waits as waits
-use Rattle.lk_progress.specs.Ordered.{IsOrdered}
-use Rattle.lk_waits.specs.Order.{level_of}
-use Rattle.lk_progress.specs.Runs.{IsFinished, OrderedRunsGoOnAside, SomebodyLeadsOnAside}
-use Rattle.lk_progress.specs.Spots.{TurnsOnTheSpot}
+use Rattle.std.proofs.Common.{◌≡◌, ◌⊎◌, inl, inr, ℕ, ◌<◌, ◌+◌, ◌*◌, Option, Some, None, true, false}
+use Rattle.std.proofs.Common.{refl, sym, ap, ◌∙◌, subst, length}
+use Rattle.lk_progress.proofs.Names.{LockHistory, history_of, LockName, Waiter, next, Machine}
+use Rattle.lk_progress.proofs.Names.{top_frame, top_of, at_rest, machine_after, Frame, Pc, Setup}
+use Rattle.lk_progress.proofs.Names.{nobody_halts, halts, moves_aside, ShowsAll, world, row_in}
+use Rattle.lk_progress.proofs.Names.{level_of, IsBarred, above_top, frame_within, top_live}
+use Rattle.lk_progress.proofs.Names.{IsOrdered, IsFinished, TurnsOnTheSpot}
+use Rattle.lk_rows.specs.Machine.{frame_at, preempted_at}
+use Rattle.lk_waits.proofs.{AsideFollowed.row_keeps_aside, Changed.quietly_of}
 use Rattle.lk_waits.proofs.ClimbAside.{at_bay_wait_for_outside}
-use Rattle.lk_waits.specs.Aside.{IsFollowedAside}
-use Rattle.lk_waits.proofs.AsideFollowed.{row_keeps_aside}
-use Rattle.lk_law.specs.Steps.{row_in}
-use Rattle.lk_law.proofs.common.Knows.{nobody_halts}
-use Rattle.lk_waits.proofs.Changed.{quietly_of}
-use Rattle.lk_progress.proofs.Good.{IsKept, IsAwake}
 use Rattle.lk_waits.proofs.Quiet.{heads_stay_aside, rests_aside}
+use Rattle.lk_waits.specs.{Aside.IsFollowedAside, Waits.IsAtBay}
+use Rattle.lk_progress.proofs.{Good.{IsKept, IsAwake}, Ranked.{tidy, ranked, inside}}
 use Rattle.lk_progress.proofs.Reached.{Reached, reached_from_rest, top_is, stuck_at, finished_by}
-use Rattle.lk_progress.proofs.Ranked.{tidy, ranked, inside}
 use Rattle.lk_progress.proofs.Runs.{LeadsOn, all_or, leads_on}
+use Rattle.lk_progress.specs.Runs.{OrderedRunsGoOnAside, SomebodyLeadsOnAside}
+use Rattle.lk_names.specs.declared.events.Act.TheVariants as act
+use Rattle.lk_waits.specs.Waits as waits
 
 -- heads that choose their successor are kept followed
 pub kept_aside : IsKept (IsAwake true) IsFollowedAside

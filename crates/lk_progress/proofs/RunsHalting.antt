@@ -1,37 +1,21 @@
 -- No run of an ordered setup of the family that halts processors comes to a deadlock.
-use Rattle.std.proofs.Common.{◌≡◌, ◌⊎◌, inl, inr, ℕ, ◌<◌, ◌+◌, ◌*◌, Option, Some, None, Bool}
-use Rattle.std.proofs.Common.{true, false, refl, sym, ap, ◌∙◌, subst, arith, length}
-use Rattle.std.proofs.lemmas.Bool.{cases_Bool}
-use Rattle.std.specs.Prelude.{if◌then◌else◌, ◌==◌}
-use Rattle.lk_names.specs.History.{LockHistory, history_of}
-use Rattle.lk_names.specs.declared.names.Waiter.{Waiter}
-use Rattle.lk_names.specs.declared.names.LockName.{LockName}
-use Rattle.lk_names.specs.declared.events.Act.TheVariants as act
-use Rattle.lk_rows.specs.declared.setup.Setup.{Setup}
-use Rattle.lk_rows.specs.declared.parts.Frame.{Frame}
-use Rattle.lk_rows.specs.declared.parts.Pc.{Pc}
-use Rattle.lk_rows.specs.declared.parts.Pc.TheVariants.{W6, E12}
-use Rattle.lk_rows.specs.Machine.{Machine, frame_at, top_of, top_frame, preempted_at, halted_at, kicked_at}
-use Rattle.lk_rows.specs.Acts.{next, idle, step_halted, kicked_awake, stands_halting}
-use Rattle.lk_rows.specs.TopRow.{row, target}
-use Rattle.lk_rows.specs.Run.{at_rest, machine_after}
-use Rattle.lk_law.specs.Agree.{halts}
-use Rattle.lk_law.specs.Sound.{world, ShowsAll}
-use Rattle.lk_core.proofs.Access.{above_top, frame_within}
-use Rattle.lk_core.proofs.RowKept.{top_live}
-use Rattle.lk_waits.specs.Halting.{IsHeadServed, IsAtRest, IsRobbed, LeadsNowhere}
-use Rattle.lk_progress.specs.Ordered.{IsOrdered}
-use Rattle.lk_waits.specs.Order.{level_of}
-use Rattle.lk_progress.specs.Runs.{IsFinished, StepsNowhere, OrderedRunsGoOnHalting}
-use Rattle.lk_waits.proofs.ClimbHalting.{at_rest_wait_for_outside}
-use Rattle.lk_progress.proofs.Good.{IsKept, IsHalting}
-use Rattle.lk_progress.proofs.Woken.{kicked_runs}
-use Rattle.lk_waits.proofs.HaltEnds.{roused_served}
-use Rattle.lk_waits.proofs.HeadServed.{still_served}
-use Rattle.lk_waits.proofs.Quiet.{heads_stay_served, rests_served}
-use Rattle.lk_progress.proofs.Ranked.{tidy, ranked, inside}
+use Rattle.std.proofs.Common.{◌≡◌, ◌⊎◌, inl, inr, ℕ, ◌<◌, ◌+◌, ◌*◌, Option, Some, None, Bool, true}
+use Rattle.std.proofs.Common.{false, refl, sym, ap, ◌∙◌, subst, arith, length, if◌then◌else◌, ◌==◌}
+use Rattle.lk_progress.proofs.Names.{cases_Bool, LockHistory, history_of, LockName, Waiter, idle}
+use Rattle.lk_progress.proofs.Names.{kicked_awake, next, stands_halting, step_halted, Machine}
+use Rattle.lk_progress.proofs.Names.{halted_at, kicked_at, top_frame, top_of, at_rest}
+use Rattle.lk_progress.proofs.Names.{machine_after, row, target, Frame, Pc, E12, W6, Setup, halts}
+use Rattle.lk_progress.proofs.Names.{ShowsAll, world, IsHeadServed, IsRobbed, level_of, above_top}
+use Rattle.lk_progress.proofs.Names.{frame_within, top_live, IsOrdered, IsFinished, StepsNowhere}
+use Rattle.lk_rows.specs.Machine.{frame_at, preempted_at}
+use Rattle.lk_waits.proofs.{ClimbHalting.at_rest_wait_for_outside, HaltEnds.roused_served}
+use Rattle.lk_waits.proofs.{HeadServed.still_served, Quiet.{heads_stay_served, rests_served}}
+use Rattle.lk_waits.specs.Halting.{IsAtRest, LeadsNowhere}
+use Rattle.lk_progress.proofs.{Good.{IsKept, IsHalting}, Ranked.{tidy, ranked, inside}}
 use Rattle.lk_progress.proofs.Reached.{Reached, reached_from_rest, top_is, row_stuck, finished_by}
-use Rattle.lk_progress.proofs.Rows.{row_moves}
+use Rattle.lk_progress.proofs.{Rows.row_moves, Woken.kicked_runs}
+use Rattle.lk_progress.specs.Runs.{OrderedRunsGoOnHalting}
+use Rattle.lk_names.specs.declared.events.Act.TheVariants as act
 
 -- heads are kept served
 pub kept_served : IsKept IsHalting IsHeadServed

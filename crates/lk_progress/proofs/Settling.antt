@@ -1,17 +1,11 @@
 -- The frame that goes on from an operation that has ended shows nothing, and runs the same program.
-use Rattle.std.proofs.Common.{◌≡◌, ◌≢◌, inl, inr, ◌<◌, Option, Some, None, sym, ap, ◌∙◌, subst, arith}
-use Rattle.std.proofs.lemmas.Bool.{eqb-true}
-use Rattle.lk_names.specs.declared.names.Mode.{Mode}
-use Rattle.lk_names.specs.declared.names.Mode.TheVariants.{Virt, Native, Cna, Pv}
-use Rattle.lk_rows.specs.declared.setup.Verb.{Verb}
-use Rattle.lk_rows.specs.declared.setup.Verb.TheVariants.{Lock, Try, Unlock, Read, TryRead}
-use Rattle.lk_rows.specs.declared.setup.Verb.TheVariants.{RUnlock, Write, TryWrite, WUnlock}
-use Rattle.lk_rows.specs.declared.parts.Frame.{Frame}
-use Rattle.lk_rows.specs.declared.parts.Pc.TheVariants.{R3}
-use Rattle.lk_rows.specs.Moves.{started, first_place}
-use Rattle.lk_progress.specs.Ordered.{ReadsAlone}
+use Rattle.std.proofs.Common.{◌≡◌, ◌≢◌, inl, inr, ◌<◌, Option, Some, None, sym, ap, ◌∙◌, subst}
+use Rattle.std.proofs.Common.{arith}
+use Rattle.lk_progress.proofs.Names.{eqb-true, Mode, Cna, Native, Pv, Virt, first_place, started}
+use Rattle.lk_progress.proofs.Names.{Frame, R3, Verb, Lock, RUnlock, Read, Try, TryRead, TryWrite}
+use Rattle.lk_progress.proofs.Names.{Unlock, WUnlock, Write, IsQuietFrame, ReadsAlone}
+use Rattle.lk_waits.proofs.Quiet.{IsQuietRow, first_quiet}
 use Rattle.lk_progress.proofs.Moves.{Settles}
-use Rattle.lk_waits.proofs.Quiet.{IsQuietRow, IsQuietFrame, first_quiet}
 
 first_not_R3 : (mode : Mode) (v : Verb) → Some (first_place mode v) ≢ Some R3
 first_not_R3 Virt Unlock e = cc e

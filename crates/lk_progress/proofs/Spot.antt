@@ -1,52 +1,24 @@
 -- While heads turn on the spot, a step that would lead on still would.
-use Rattle.std.proofs.Common.{◌≡◌, ◌⊎◌, inl, inr, ℕ, ◌<◌, Option, Some, None, Bool}
-use Rattle.std.proofs.Common.{true, false, refl, sym, ap, ◌∙◌, subst, arith, length}
-use Rattle.std.proofs.lemmas.Bool.{cases_Bool, cases_lt}
-use Rattle.std.specs.Prelude.{if◌then◌else◌}
-use Rattle.lk_names.specs.History.{LockHistory}
-use Rattle.lk_names.specs.declared.names.Mode.{Mode}
-use Rattle.lk_names.specs.declared.names.Waiter.{Waiter}
-use Rattle.lk_names.specs.declared.names.LockName.{LockName}
-use Rattle.lk_names.specs.declared.events.Act.TheVariants as act
-use Rattle.lk_word.specs.declared.spin_word.NodeName.{NodeName}
-use Rattle.lk_word.specs.declared.spin_word.Fields.{Fields}
-use Rattle.lk_word.specs.declared.rw_word.RwFields.{RwFields}
-use Rattle.lk_rows.specs.declared.setup.Setup.{Setup}
-use Rattle.lk_rows.specs.declared.parts.Frame.{Frame}
-use Rattle.lk_rows.specs.declared.parts.Node.{Node}
-use Rattle.lk_rows.specs.declared.parts.Pc.{Pc}
-use Rattle.lk_rows.specs.declared.parts.Pc.TheVariants.{V1, P3, G6, G7, G10, N1, R2, R5, Wr5, C1, C3, C10}
-use Rattle.lk_rows.specs.declared.parts.Why.{Why}
-use Rattle.lk_rows.specs.declared.parts.Why.TheVariants as why
-use Rattle.lk_rows.specs.Machine.{Machine, frame_at, top_of, top_frame, preempted_at, halted_at, node_at, word_at, rw_at}
-use Rattle.lk_rows.specs.Moves.{node_of}
-use Rattle.lk_rows.specs.rows.Cna.{is_last}
-use Rattle.lk_rows.specs.rows.Queue.{queue_row, flag_row, next_row}
-use Rattle.lk_rows.specs.rows.Rw.{rw_row}
-use Rattle.lk_rows.specs.rows.Spin.{spin_row}
-use Rattle.lk_rows.specs.TopRow.{row, row_at, target}
-use Rattle.lk_rows.specs.Acts.{next, idle, step_halted}
-use Rattle.lk_law.specs.Agree.{halts}
-use Rattle.lk_law.specs.Families.{may_halt, chooses}
-use Rattle.lk_law.specs.Leads.{course_in}
-use Rattle.lk_law.specs.Sound.{world, ShowsAll}
-use Rattle.lk_law.specs.SoundWorld.{spin_part}
-use Rattle.lk_law.specs.Steps.{led}
-use Rattle.lk_law.specs.World.{World}
-use Rattle.lk_law.proofs.common.Knows.{nobody_halts}
-use Rattle.lk_law.proofs.common.Puts.{if-true, not-true}
-use Rattle.lk_law.proofs.common.Sames.{same_waiter-self}
-use Rattle.lk_law.proofs.running.Leads.{row_is_done}
-use Rattle.lk_core.proofs.Access.{above_top, top_frame-is}
-use Rattle.lk_core.proofs.RowKept.{top_live}
-use Rattle.lk_waits.specs.Waits.{IsBarred, polls, StandsStill}
+use Rattle.std.proofs.Common.{◌≡◌, ◌⊎◌, inl, inr, ℕ, ◌<◌, Option, Some, None, Bool, true, false}
+use Rattle.std.proofs.Common.{refl, sym, ap, ◌∙◌, subst, arith, length, if◌then◌else◌}
+use Rattle.lk_progress.proofs.Names.{cases_Bool, cases_lt, RwFields, Fields, NodeName, LockHistory}
+use Rattle.lk_progress.proofs.Names.{LockName, Mode, Waiter, idle, next, step_halted, Machine}
+use Rattle.lk_progress.proofs.Names.{halted_at, rw_at, top_frame, top_of, word_at, node_of, row}
+use Rattle.lk_progress.proofs.Names.{row_at, target, Frame, Node, Pc, C1, C3, C10, G6, G7, G10, N1}
+use Rattle.lk_progress.proofs.Names.{P3, R2, R5, V1, Wr5, Why, Setup, is_last, rw_row, nobody_halts}
+use Rattle.lk_progress.proofs.Names.{if-true, not-true, same_waiter-self, row_is_done, halts}
+use Rattle.lk_progress.proofs.Names.{chooses, may_halt, course_in, ShowsAll, world, spin_part, led}
+use Rattle.lk_progress.proofs.Names.{World, IsBarred, polls, above_top, top_live, left_in, turn_of}
+use Rattle.lk_progress.proofs.Names.{TurnsOnTheSpot}
+use Rattle.lk_rows.specs.Machine.{frame_at, preempted_at, node_at}
+use Rattle.lk_rows.specs.{rows.Queue.{queue_row, flag_row, next_row}, rows.Spin.spin_row}
 use Rattle.lk_waits.proofs.Stands.{still_polls}
-use Rattle.lk_progress.specs.Measure.{left_in, turn_of}
-use Rattle.lk_progress.specs.Spots.{TurnsOnTheSpot}
-use Rattle.lk_progress.proofs.Descends.{row_descends}
-use Rattle.lk_progress.proofs.Potential.{contexts_of}
-use Rattle.lk_progress.proofs.Reached.{row_stuck}
+use Rattle.lk_waits.specs.Waits.{StandsStill}
+use Rattle.lk_core.proofs.Access.{top_frame-is}
+use Rattle.lk_progress.proofs.{Descends.row_descends, Potential.contexts_of, Reached.row_stuck}
 use Rattle.lk_progress.proofs.Still.{stays_same}
+use Rattle.lk_names.specs.declared.events.Act.TheVariants as act
+use Rattle.lk_rows.specs.declared.parts.Why.TheVariants as why
 
 -- a head at a row turns on the spot, or does not
 

@@ -1,29 +1,18 @@
 -- A step that leaves the newest frame at its row changes nothing.
-use Rattle.std.proofs.Common.{◌≡◌, inl, inr, ℕ, zero, suc, ◌<◌, ◌-◌, Option, Some, None, Bool}
-use Rattle.std.proofs.Common.{true, false, refl, sym, ap, ◌∙◌, List, [], ◌∷◌, length, slice_get, set}
-use Rattle.std.proofs.lemmas.Bool.{cases_Bool}
+use Rattle.std.proofs.Common.{◌≡◌, inl, inr, ℕ, zero, suc, ◌<◌, ◌-◌, Option, Some, None, Bool, true}
+use Rattle.std.proofs.Common.{false, refl, sym, ap, ◌∙◌, List, [], ◌∷◌, length, slice_get, set}
+use Rattle.std.proofs.Common.{if◌then◌else◌}
 use Rattle.std.proofs.lemmas.Option.{slice_get-get_or}
-use Rattle.std.specs.Prelude.{if◌then◌else◌}
-use Rattle.lk_word.specs.declared.spin_word.NodeName.{NodeName}
-use Rattle.lk_rows.specs.declared.parts.Flag.{Flag}
-use Rattle.lk_rows.specs.declared.parts.Flag.TheVariants as flag
-use Rattle.lk_rows.specs.declared.parts.Frame.{Frame}
-use Rattle.lk_rows.specs.declared.parts.Pc.{Pc}
-use Rattle.lk_rows.specs.declared.parts.Pc.TheVariants.{V1, P3, G6, G7, G10, N1, R2, R5, Wr5}
-use Rattle.lk_rows.specs.Machine.{Machine, frame_at, top_of, set_top, set_cpu, cpu_at, depth_at, CpuState, no_cpu, node_at, rw_at}
-use Rattle.lk_rows.specs.Moves.{node_of}
-use Rattle.lk_rows.specs.Row.{gone, looks, Done}
-use Rattle.lk_rows.specs.rows.Queue.{after_flag, after_next}
-use Rattle.lk_rows.specs.rows.Rw.{admits, frees_wait}
-use Rattle.lk_rows.specs.TopRow.{target, row_on, on_rw, on_flag, on_next}
-use Rattle.lk_names.specs.declared.events.RwHow.TheVariants as how
-use Rattle.lk_law.specs.Families.{may_halt, chooses}
-use Rattle.lk_law.specs.Leads.{course_in}
-use Rattle.lk_law.specs.Premises.{IsThen}
-use Rattle.lk_law.specs.Sound.{world}
-use Rattle.lk_law.specs.Steps.{led}
-use Rattle.lk_waits.specs.Waits.{polls}
+use Rattle.lk_progress.proofs.Names.{cases_Bool, NodeName, CpuState, Machine, no_cpu, rw_at, top_of}
+use Rattle.lk_progress.proofs.Names.{node_of, Done, gone, looks, row_on, target, Flag, Frame, Pc}
+use Rattle.lk_progress.proofs.Names.{G6, G7, G10, N1, P3, R2, R5, V1, Wr5, after_flag, after_next}
+use Rattle.lk_progress.proofs.Names.{admits, frees_wait, chooses, may_halt, course_in, IsThen}
+use Rattle.lk_progress.proofs.Names.{world, led, polls}
+use Rattle.lk_rows.specs.Machine.{frame_at, set_top, set_cpu, cpu_at, depth_at, node_at}
+use Rattle.lk_rows.specs.TopRow.{on_rw, on_flag, on_next}
 use Rattle.lk_waits.proofs.Stands.{off, off_unlock}
+use Rattle.lk_rows.specs.declared.parts.Flag.TheVariants as flag
+use Rattle.lk_names.specs.declared.events.RwHow.TheVariants as how
 
 set_self : {A : Type 0} (xs : List A) (i : ℕ) (x : A) → slice_get xs i ≡ Some x → set xs i x ≡ xs
 set_self [] i x e = refl

@@ -1,8 +1,7 @@
 -- Sums over the frames of all processors, and what they become where one frame changes.
-use Rattle.std.proofs.Common.{◌≡◌, ◌≢◌, inl, inr, ℕ, zero, suc, ◌<◌, ◌≤◌, ◌+◌, ◌*◌, refl, sym, ap, subst, arith}
-use Rattle.std.proofs.lemmas.Bool.{cases_eq}
-use Rattle.lk_names.specs.declared.names.Waiter.{Waiter}
-use Rattle.lk_progress.specs.Potential.{sum_below}
+use Rattle.std.proofs.Common.{◌≡◌, ◌≢◌, inl, inr, ℕ, zero, suc, ◌<◌, ◌≤◌, ◌+◌, ◌*◌, refl, sym, ap}
+use Rattle.std.proofs.Common.{subst, arith}
+use Rattle.lk_progress.proofs.Names.{cases_eq, Waiter, sum_below}
 
 pub sum_same : (n : ℕ) (F G : ℕ → ℕ) → ((i : ℕ) → i < n → G i ≡ F i) → sum_below n G ≡ sum_below n F
 sum_same zero F G same = refl

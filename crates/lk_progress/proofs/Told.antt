@@ -1,49 +1,28 @@
 -- Which row an event tells of.
-use Rattle.std.proofs.Common.{◌≡◌, ◌≢◌, ◌⊎◌, inl, inr, ℕ, ◌<◌, Option, Some, None, Bool, true, false, refl, sym, ap, ◌∙◌, subst, length}
-use Rattle.std.specs.Prelude.{if◌then◌else◌, is_some}
-use Rattle.lk_names.specs.History.{LockHistory}
-use Rattle.lk_names.specs.declared.names.Waiter.{Waiter}
-use Rattle.lk_names.specs.declared.names.LockName.{LockName}
-use Rattle.lk_names.specs.declared.events.Act.{Act}
-use Rattle.lk_names.specs.declared.events.Event.{Event}
-use Rattle.lk_names.specs.declared.events.How.{How}
+use Rattle.std.proofs.Common.{◌≡◌, ◌≢◌, ◌⊎◌, inl, inr, ℕ, ◌<◌, Option, Some, None, Bool, true}
+use Rattle.std.proofs.Common.{false, refl, sym, ap, ◌∙◌, subst, length, if◌then◌else◌, is_some}
+use Rattle.lk_progress.proofs.Names.{RwFields, Fields, NodeName, LockHistory, Act, Event, How, What}
+use Rattle.lk_progress.proofs.Names.{Flush, Int, Leave, Miss, Pass, Promote, Take, LockName, Waiter}
+use Rattle.lk_progress.proofs.Names.{next, processor_of, Machine, top_frame, top_of, word_at}
+use Rattle.lk_progress.proofs.Names.{node_of, Answer, Done, Effect, Says, looks, row, target, Flag}
+use Rattle.lk_progress.proofs.Names.{Frame, Pc, C1, C2, C3, C4, C5, C6, C7, C8, C9, C10, F1, G1, G2}
+use Rattle.lk_progress.proofs.Names.{G3, G4, G5, G6, G7, G8, G9, G10, G11, N1, N2, P0, P1, P2, P3}
+use Rattle.lk_progress.proofs.Names.{P4, R1, R2, R3, R4, R5, T1, T2, U1, V1, V2, Wr1, Wr2, Wr3, Wr4}
+use Rattle.lk_progress.proofs.Names.{Wr5, Wr6, Y1, Y2, Y3, Y4, Y5, Z1, Z2, Sight, is_last, may_stay}
+use Rattle.lk_progress.proofs.Names.{search_first, search_on, after_flag, is_sole, takes_out}
+use Rattle.lk_progress.proofs.Names.{admits, frees_wait, is_cleared, is_empty, is_open, after_fast}
+use Rattle.lk_progress.proofs.Names.{is_free, not-true, halts, may_halt, course_in, ShowsAll, world}
+use Rattle.lk_progress.proofs.Names.{row_in, sight_in, World, top_live}
+use Rattle.lk_rows.specs.{Machine.frame_at, Moves.waiter_of}
+use Rattle.lk_rows.specs.Row.{Tell, Nothing, Passes, event_of, writes, misses}
+use Rattle.lk_rows.specs.rows.Rw.{after_bias, takes_written, queues_up, one_more, rw_lock}
+use Rattle.lk_rows.specs.rows.Spin.{takes}
+use Rattle.lk_law.proofs.running.Leads.{row_is_led}
+use Rattle.lk_law.specs.Steps.{Made}
+use Rattle.lk_progress.proofs.{Acted.{Acted, Makes, Idles, Comes, acted}, Rows.row_tells}
 use Rattle.lk_names.specs.declared.events.How.TheVariants as how
 use Rattle.lk_names.specs.declared.events.RwHow.TheVariants as rw_how
-use Rattle.lk_names.specs.declared.events.What.{What}
-use Rattle.lk_names.specs.declared.events.What.TheVariants.{Take, Miss, Pass, Flush, Promote, Leave, Int}
-use Rattle.lk_word.specs.declared.spin_word.NodeName.{NodeName}
-use Rattle.lk_word.specs.declared.spin_word.Fields.{Fields}
-use Rattle.lk_word.specs.declared.rw_word.RwFields.{RwFields}
-use Rattle.lk_rows.specs.declared.parts.Flag.{Flag}
 use Rattle.lk_rows.specs.declared.parts.Flag.TheVariants as flag
-use Rattle.lk_rows.specs.declared.parts.Frame.{Frame}
-use Rattle.lk_rows.specs.declared.parts.Pc.{Pc}
-use Rattle.lk_rows.specs.declared.parts.Pc.TheVariants.{F1, T1, T2, U1, V1, V2, P0, P1, P2, P3, P4}
-use Rattle.lk_rows.specs.declared.parts.Pc.TheVariants.{G1, G2, G3, G4, G5, G6, G7, G8, G9, G10, G11, N1, N2}
-use Rattle.lk_rows.specs.declared.parts.Pc.TheVariants.{C1, C2, C3, C4, C5, C6, C7, C8, C9, C10}
-use Rattle.lk_rows.specs.declared.parts.Pc.TheVariants.{R1, R2, R3, R4, R5, Wr1, Wr2, Wr3, Wr4}
-use Rattle.lk_rows.specs.declared.parts.Pc.TheVariants.{Wr5, Wr6, Y1, Y2, Y3, Y4, Y5, Z1, Z2}
-use Rattle.lk_rows.specs.Acts.{next, processor_of}
-use Rattle.lk_rows.specs.Machine.{Machine, top_of, top_frame, frame_at, word_at}
-use Rattle.lk_rows.specs.Moves.{node_of, waiter_of}
-use Rattle.lk_rows.specs.Row.{Effect, Tell, Nothing, Says, Passes, event_of, looks, writes, Done, misses, Answer}
-use Rattle.lk_rows.specs.rows.Spin.{is_free, takes, after_fast}
-use Rattle.lk_rows.specs.rows.Queue.{is_sole, takes_out, after_flag}
-use Rattle.lk_rows.specs.rows.Cna.{Sight, search_first, search_on, may_stay, is_last}
-use Rattle.lk_rows.specs.rows.Rw.{is_empty, is_open, is_cleared, after_bias, frees_wait}
-use Rattle.lk_rows.specs.rows.Rw.{admits, takes_written, queues_up, one_more, rw_lock}
-use Rattle.lk_rows.specs.TopRow.{target, row}
-use Rattle.lk_law.specs.Agree.{halts}
-use Rattle.lk_law.specs.Families.{may_halt}
-use Rattle.lk_law.specs.Leads.{course_in}
-use Rattle.lk_law.specs.Sound.{world, ShowsAll}
-use Rattle.lk_law.specs.Steps.{row_in, Made, sight_in}
-use Rattle.lk_law.specs.World.{World}
-use Rattle.lk_law.proofs.common.Puts.{not-true}
-use Rattle.lk_law.proofs.running.Leads.{row_is_led}
-use Rattle.lk_core.proofs.RowKept.{top_live}
-use Rattle.lk_progress.proofs.Acted.{Acted, Makes, Idles, Comes, acted}
-use Rattle.lk_progress.proofs.Rows.{row_tells}
 
 -- What a row may say. A take is of the lock of its frame, and finds the word free, or is that of the waiter
 -- which has set pending, or of the head; and the exchange that empties the queue is G8's. The secondary

@@ -1,42 +1,20 @@
 -- How far all frames are from the ends of their turns: at most two rows each, and at rest none.
-use Rattle.std.proofs.Common.{◌≡◌, ℕ, zero, suc, ◌+◌, ◌≤◌, ◌*◌, Option, Some, None, Bool}
-use Rattle.std.proofs.Common.{true, false, refl, sym, ap, ◌∙◌, arith, length, slice_get}
-use Rattle.std.specs.Prelude.{if◌then◌else◌, is_some, ◌-◌}
-use Rattle.lk_names.specs.declared.names.Mode.{Mode}
-use Rattle.lk_names.specs.declared.names.Mode.TheVariants.{Virt, Native, Cna, Pv}
-use Rattle.lk_names.specs.declared.names.Waiter.{Waiter}
-use Rattle.lk_names.specs.declared.names.LockName.{LockName}
-use Rattle.lk_word.specs.declared.spin_word.Fields.{Fields}
-use Rattle.lk_word.specs.declared.rw_word.RwFields.{RwFields}
-use Rattle.lk_rows.specs.declared.setup.Op.{Op}
-use Rattle.lk_rows.specs.declared.setup.Setup.{Setup}
-use Rattle.lk_rows.specs.declared.setup.Verb.{Verb}
-use Rattle.lk_rows.specs.declared.setup.Verb.TheVariants.{Lock, Try, Unlock, Read, TryRead, RUnlock, Write, TryWrite, WUnlock}
-use Rattle.lk_rows.specs.declared.parts.Frame.{Frame}
-use Rattle.lk_rows.specs.declared.parts.Pc.{Pc}
-use Rattle.lk_rows.specs.declared.parts.Pc.TheVariants.{V1, V2, N1, N2, Wr5, Wr6, C1, C2, C3, C10}
-use Rattle.lk_rows.specs.Machine.{Machine, frame_at}
-use Rattle.lk_rows.specs.Moves.{first_place}
-use Rattle.lk_rows.specs.Programs.{IsLawfulSetup, program_at}
-use Rattle.lk_rows.specs.Run.{at_rest, first_frame}
-use Rattle.lk_rows.specs.rows.Rw.{is_cleared}
-use Rattle.lk_rows.specs.rows.Spin.{is_free}
-use Rattle.lk_names.specs.History.{LockHistory}
-use Rattle.lk_word.specs.declared.spin_word.NodeName.{NodeName}
-use Rattle.lk_rows.specs.declared.parts.Node.{Node}
-use Rattle.lk_rows.specs.declared.parts.Why.{Why}
-use Rattle.lk_rows.specs.declared.parts.Why.TheVariants as why
-use Rattle.lk_rows.specs.Moves.{node_of}
-use Rattle.lk_rows.specs.rows.Cna.{is_last}
-use Rattle.lk_law.specs.Cna.{moves_aside}
-use Rattle.lk_law.specs.Families.{chooses}
-use Rattle.lk_law.proofs.common.Puts.{not-true}
-use Rattle.lk_law.specs.Sound.{world, ShowsAll}
-use Rattle.lk_law.specs.World.{World}
-use Rattle.lk_core.proofs.Rest.{frames}
-use Rattle.lk_progress.specs.Measure.{turn_at, turn_if, turn_of, look_at, seek_at, swing_at, promotion_at, contexts, is_linked}
-use Rattle.lk_progress.specs.Potential.{turns, cpu_turns, most_turns}
+use Rattle.std.proofs.Common.{◌≡◌, ℕ, zero, suc, ◌+◌, ◌≤◌, ◌*◌, Option, Some, None, Bool, true}
+use Rattle.std.proofs.Common.{false, refl, sym, ap, ◌∙◌, arith, length, slice_get, if◌then◌else◌}
+use Rattle.std.proofs.Common.{is_some, ◌-◌}
+use Rattle.lk_progress.proofs.Names.{RwFields, Fields, NodeName, LockHistory, LockName, Mode, Cna}
+use Rattle.lk_progress.proofs.Names.{Native, Pv, Virt, Waiter, Machine, first_place, node_of}
+use Rattle.lk_progress.proofs.Names.{IsLawfulSetup, program_at, at_rest, first_frame, Frame, Node}
+use Rattle.lk_progress.proofs.Names.{Pc, C1, C2, C3, C10, N1, N2, V1, V2, Wr5, Wr6, Why, Op, Setup}
+use Rattle.lk_progress.proofs.Names.{Verb, Lock, RUnlock, Read, Try, TryRead, TryWrite, Unlock}
+use Rattle.lk_progress.proofs.Names.{WUnlock, Write, is_last, is_cleared, is_free, not-true}
+use Rattle.lk_progress.proofs.Names.{moves_aside, chooses, ShowsAll, world, World, frames, turn_at}
+use Rattle.lk_progress.proofs.Names.{turn_of, cpu_turns, turns}
+use Rattle.lk_rows.specs.Machine.{frame_at}
 use Rattle.lk_progress.proofs.Sums.{six_most, sum_most, total, total_same}
+use Rattle.lk_progress.specs.Measure.{turn_if, look_at, seek_at, swing_at, promotion_at, contexts}
+use Rattle.lk_progress.specs.{Measure.is_linked, Potential.most_turns}
+use Rattle.lk_rows.specs.declared.parts.Why.TheVariants as why
 
 -- a swap is at most two rows from the end of its turn, and a head that looks for its successor three
 swap_few : (b : Bool) → ◌≤◌ (if b then 0 else 2) 2

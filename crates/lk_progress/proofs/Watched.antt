@@ -1,56 +1,27 @@
 -- Who waits by the pending bit of a lock after an act, while somebody stands in its queue.
-use Rattle.std.proofs.Common.{◌≡◌, ◌≢◌, ◌⊎◌, inl, inr, ℕ, ◌<◌, Option, Some, None, Bool, true, false, List, []}
-use Rattle.std.proofs.Common.{refl, sym, ap, ◌∙◌, subst, arith, length, slice_get}
-use Rattle.std.proofs.lemmas.Bool.{cases_Bool}
-use Rattle.std.specs.Prelude.{is_some}
-use Rattle.lk_names.specs.Names.{same_waiter}
-use Rattle.lk_names.specs.History.{LockHistory, no_history}
-use Rattle.lk_names.specs.declared.names.Kind.{Kind}
-use Rattle.lk_names.specs.declared.names.Kind.TheVariants.{Spin, Rw}
-use Rattle.lk_names.specs.declared.names.Mode.{Mode}
-use Rattle.lk_names.specs.declared.names.Mode.TheVariants.{Virt, Native, Cna, Pv}
-use Rattle.lk_names.specs.declared.names.Waiter.{Waiter}
-use Rattle.lk_names.specs.declared.names.LockName.{LockName}
-use Rattle.lk_names.specs.declared.events.Act.{Act}
-use Rattle.lk_names.specs.declared.events.Event.{Event}
-use Rattle.lk_names.specs.declared.events.How.{How}
-use Rattle.lk_names.specs.declared.events.What.TheVariants.{Take}
-use Rattle.lk_word.specs.declared.spin_word.NodeName.{NodeName}
-use Rattle.lk_rows.specs.declared.setup.Verb.{Verb}
-use Rattle.lk_rows.specs.declared.setup.Verb.TheVariants.{Lock, Try, Unlock, Read, TryRead}
-use Rattle.lk_rows.specs.declared.setup.Verb.TheVariants.{RUnlock, Write, TryWrite, WUnlock}
-use Rattle.lk_rows.specs.declared.parts.Frame.{Frame}
-use Rattle.lk_rows.specs.declared.parts.Pc.{Pc}
-use Rattle.lk_rows.specs.declared.parts.Pc.TheVariants.{F1, P3, P4}
-use Rattle.lk_rows.specs.Acts.{next, processor_of}
-use Rattle.lk_rows.specs.Machine.{Machine, top_of, top_frame, frame_at, word_at}
-use Rattle.lk_rows.specs.Moves.{node_of, started, first_place, rw_name}
-use Rattle.lk_rows.specs.Row.{Answer, Lead, Goes, Enters, Granted, Freed, Missed, Done, TakesWait, Leaves, Yields}
-use Rattle.lk_rows.specs.TopRow.{target, row}
-use Rattle.lk_law.specs.Agree.{halts, LockAgrees}
-use Rattle.lk_law.specs.Families.{may_halt}
-use Rattle.lk_law.specs.Leads.{course_in, stored_in}
-use Rattle.lk_law.specs.Phase.{pends, queues}
-use Rattle.lk_law.specs.Places.{snapshot, phase_at, phase_if, phase_on}
-use Rattle.lk_law.specs.Sound.{world, ShowsAll}
-use Rattle.lk_law.specs.SoundWorld.{spin_part, is_rw, is_rw_name}
-use Rattle.lk_law.specs.Steps.{led}
-use Rattle.lk_law.specs.World.{World}
-use Rattle.lk_law.proofs.common.Cases.{waiter_cases}
-use Rattle.lk_law.proofs.common.Families.{lists_none}
-use Rattle.lk_law.proofs.common.Puts.{if-true, if-false, not-true, same_waiter-else}
-use Rattle.lk_law.proofs.common.Sames.{same_waiter-self}
-use Rattle.lk_law.proofs.common.Worlds.{phase_on-here}
-use Rattle.lk_core.proofs.Moved.{same_changed_all}
-use Rattle.lk_core.proofs.RowKept.{top_live}
-use Rattle.lk_progress.specs.InTurn.{WatchesNot, NobodyWatches}
-use Rattle.lk_progress.specs.Turns.{is_watching}
-use Rattle.lk_progress.proofs.Acted.{Acted, Idles, Makes, Comes, acted}
-use Rattle.lk_progress.proofs.Moves.{Moves, Settles}
-use Rattle.lk_progress.proofs.Rows.{Put, row_moves}
-use Rattle.lk_progress.proofs.Told.{ToldRow, SaysSo, told_says}
-use Rattle.lk_progress.proofs.Watching.{turns}
-use Rattle.lk_progress.proofs.Watching.{nobody_watches_anew}
+use Rattle.std.proofs.Common.{◌≡◌, ◌≢◌, ◌⊎◌, inl, inr, ℕ, ◌<◌, Option, Some, None, Bool, true}
+use Rattle.std.proofs.Common.{false, List, [], refl, sym, ap, ◌∙◌, subst, arith, length, slice_get}
+use Rattle.std.proofs.Common.{is_some}
+use Rattle.lk_progress.proofs.Names.{cases_Bool, NodeName, LockHistory, same_waiter, Act, Event}
+use Rattle.lk_progress.proofs.Names.{How, Take, Spin, LockName, Mode, Cna, Native, Pv, Virt, Waiter}
+use Rattle.lk_progress.proofs.Names.{next, processor_of, Machine, top_frame, top_of, word_at}
+use Rattle.lk_progress.proofs.Names.{first_place, node_of, started, Answer, Done, Enters, Freed}
+use Rattle.lk_progress.proofs.Names.{Goes, Granted, Lead, Leaves, Missed, TakesWait, Yields, row}
+use Rattle.lk_progress.proofs.Names.{target, Frame, Pc, F1, P3, P4, Verb, Lock, RUnlock, Read, Try}
+use Rattle.lk_progress.proofs.Names.{TryRead, TryWrite, Unlock, WUnlock, Write, waiter_cases}
+use Rattle.lk_progress.proofs.Names.{lists_none, if-false, if-true, not-true, same_waiter-else}
+use Rattle.lk_progress.proofs.Names.{same_waiter-self, phase_on-here, LockAgrees, halts, may_halt}
+use Rattle.lk_progress.proofs.Names.{course_in, stored_in, queues, phase_at, phase_if, phase_on}
+use Rattle.lk_progress.proofs.Names.{snapshot, ShowsAll, world, is_rw_name, spin_part, led, World}
+use Rattle.lk_progress.proofs.Names.{same_changed_all, top_live}
+use Rattle.lk_names.specs.{History.no_history, declared.names.Kind.Kind}
+use Rattle.lk_names.specs.declared.names.Kind.TheVariants.{Rw}
+use Rattle.lk_rows.specs.{Machine.frame_at, Moves.rw_name}
+use Rattle.lk_law.specs.{Phase.pends, SoundWorld.is_rw}
+use Rattle.lk_progress.proofs.{Acted.{Acted, Idles, Makes, Comes, acted}, Moves.{Moves, Settles}}
+use Rattle.lk_progress.proofs.{Rows.{Put, row_moves}, Told.{ToldRow, SaysSo, told_says}}
+use Rattle.lk_progress.proofs.Watching.{turns, nobody_watches_anew}
+use Rattle.lk_progress.specs.{InTurn.{WatchesNot, NobodyWatches}, Turns.is_watching}
 
 -- no operation begins at such a row
 pub first_not_watching : (mode : Mode) (v : Verb) → is_watching (first_place mode v) ≡ false

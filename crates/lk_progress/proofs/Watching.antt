@@ -1,52 +1,29 @@
 -- From which rows a frame comes to wait by the pending bit; and who takes the lock while somebody stands in
 -- its queue: the head, or the waiter that set pending.
-use Rattle.std.proofs.Common.{◌≡◌, ◌⊎◌, inl, inr, ℕ, Option, Some, None, Bool, true, false, refl, sym, ap}
-use Rattle.std.proofs.Common.{◌∙◌, arith, slice_get, subst}
-use Rattle.std.proofs.lemmas.Bool.{cases_Bool}
-use Rattle.std.specs.Prelude.{if◌then◌else◌, is_some, ◌&&◌, not, ◌==◌}
-use Rattle.lk_names.specs.declared.names.Mode.{Mode}
-use Rattle.lk_names.specs.declared.names.Mode.TheVariants.{Virt, Native, Cna, Pv}
-use Rattle.lk_names.specs.declared.names.Waiter.{Waiter}
-use Rattle.lk_word.specs.declared.spin_word.NodeName.{NodeName}
-use Rattle.lk_word.specs.declared.spin_word.Fields.{Fields}
-use Rattle.lk_word.specs.declared.rw_word.RwFields.{RwFields}
-use Rattle.lk_rows.specs.declared.parts.Flag.{Flag}
-use Rattle.lk_rows.specs.declared.parts.Flag.TheVariants as flag
-use Rattle.lk_rows.specs.declared.parts.Frame.{Frame}
-use Rattle.lk_rows.specs.declared.parts.Pc.{Pc}
-use Rattle.lk_rows.specs.declared.parts.Pc.TheVariants.{F1, T1, T2, U1, V1, V2, P0, P1, P2, P3, P4, G1, G2}
-use Rattle.lk_rows.specs.declared.parts.Pc.TheVariants.{G3, G4, G5, G6, G7, G8, G9, G10, G11, N1, N2, R1, R2}
-use Rattle.lk_rows.specs.declared.parts.Pc.TheVariants.{R3, R4, R5, Wr1, Wr2, Wr3, Wr4, Wr5, Wr6, Y1, Y2, Y3}
-use Rattle.lk_rows.specs.declared.parts.Pc.TheVariants.{Y4, Y5, Z1, Z2, C1, C2, C3, C4, C5, C6, C7, C8, C9}
-use Rattle.lk_rows.specs.declared.parts.Pc.TheVariants.{C10}
-use Rattle.lk_rows.specs.declared.parts.Why.{Why}
-use Rattle.lk_rows.specs.declared.parts.Why.TheVariants as why
-use Rattle.lk_rows.specs.declared.setup.Verb.TheVariants.{Unlock}
-use Rattle.lk_rows.specs.Moves.{is_node, node_of, first_place}
-use Rattle.lk_rows.specs.Row.{Effect, Lead, looks}
-use Rattle.lk_rows.specs.rows.Spin.{is_free, is_unlocked, to_queue, after_fast, after_pending}
-use Rattle.lk_rows.specs.rows.Queue.{is_sole, own_node, after_entry, after_arrival, after_head, after_flag}
-use Rattle.lk_rows.specs.rows.Queue.{after_next, after_link}
-use Rattle.lk_rows.specs.rows.Cna.{Sight, search_first, search_on, after_tail, is_last, may_stay}
-use Rattle.lk_rows.specs.rows.Rw.{is_empty, is_open, is_cleared}
-use Rattle.lk_rows.specs.TopRow.{target}
-use Rattle.lk_law.specs.Families.{may_halt}
-use Rattle.lk_law.specs.Leads.{course_in}
-use Rattle.lk_law.specs.Premises.{IsThen}
-use Rattle.lk_law.specs.Steps.{led, sight_in}
-use Rattle.lk_law.specs.World.{World}
-use Rattle.lk_law.proofs.common.Puts.{not-true}
-use Rattle.lk_progress.specs.Turns.{NobodyWatchesAnew, is_watching, TakesInTurn}
-use Rattle.lk_names.specs.History.{LockHistory}
-use Rattle.lk_names.specs.declared.events.How.{How}
-use Rattle.lk_names.specs.declared.events.What.TheVariants.{Take}
-use Rattle.lk_names.specs.declared.names.LockName.{LockName}
-use Rattle.lk_law.specs.Phase.{Phase, leads, queues}
-use Rattle.lk_law.specs.Places.{snapshot, phase_at, phase_if, phase_on}
-use Rattle.lk_law.specs.SpinWorld.{IsSoundSpinWorld}
-use Rattle.lk_law.proofs.common.Families.{lists_front, lists_none, lists_main}
-use Rattle.lk_law.proofs.common.Worlds.{phase_on-here}
+use Rattle.std.proofs.Common.{◌≡◌, ◌⊎◌, inl, inr, ℕ, Option, Some, None, Bool, true, false, refl}
+use Rattle.std.proofs.Common.{sym, ap, ◌∙◌, arith, slice_get, subst, if◌then◌else◌, is_some, ◌&&◌}
+use Rattle.std.proofs.Common.{not, ◌==◌}
+use Rattle.lk_progress.proofs.Names.{cases_Bool, RwFields, Fields, NodeName, LockHistory, How, Take}
+use Rattle.lk_progress.proofs.Names.{LockName, Mode, Cna, Native, Pv, Virt, Waiter, first_place}
+use Rattle.lk_progress.proofs.Names.{is_node, node_of, Effect, Lead, looks, target, Flag, Frame, Pc}
+use Rattle.lk_progress.proofs.Names.{C1, C2, C3, C4, C5, C6, C7, C8, C9, C10, F1, G1, G2, G3, G4}
+use Rattle.lk_progress.proofs.Names.{G5, G6, G7, G8, G9, G10, G11, N1, N2, P0, P1, P2, P3, P4, R1}
+use Rattle.lk_progress.proofs.Names.{R2, R3, R4, R5, T1, T2, U1, V1, V2, Wr1, Wr2, Wr3, Wr4, Wr5}
+use Rattle.lk_progress.proofs.Names.{Wr6, Y1, Y2, Y3, Y4, Y5, Z1, Z2, Why, Unlock, Sight}
+use Rattle.lk_progress.proofs.Names.{after_tail, is_last, may_stay, search_first, search_on}
+use Rattle.lk_progress.proofs.Names.{after_arrival, after_entry, after_flag, after_head, after_link}
+use Rattle.lk_progress.proofs.Names.{after_next, is_sole, own_node, is_cleared, is_empty, is_open}
+use Rattle.lk_progress.proofs.Names.{after_fast, is_free, is_unlocked, to_queue, lists_main}
+use Rattle.lk_progress.proofs.Names.{lists_none, not-true, phase_on-here, may_halt, course_in}
+use Rattle.lk_progress.proofs.Names.{queues, phase_at, phase_if, phase_on, snapshot, IsThen}
+use Rattle.lk_progress.proofs.Names.{IsSoundSpinWorld, led, sight_in, World}
+use Rattle.lk_rows.specs.rows.Spin.{after_pending}
+use Rattle.lk_law.proofs.common.Families.{lists_front}
+use Rattle.lk_law.specs.Phase.{Phase, leads}
 use Rattle.lk_progress.proofs.Told.{TellsSo, SaysSo, tells_so}
+use Rattle.lk_progress.specs.Turns.{NobodyWatchesAnew, is_watching, TakesInTurn}
+use Rattle.lk_rows.specs.declared.parts.Flag.TheVariants as flag
+use Rattle.lk_rows.specs.declared.parts.Why.TheVariants as why
 
 -- a place at which a frame waits by the pending bit
 abbrev tells : Option Pc → Bool

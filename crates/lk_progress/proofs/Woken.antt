@@ -1,31 +1,18 @@
 -- What the end of a halt makes of a machine.
-use Rattle.std.proofs.Common.{◌≡◌, ◌⊎◌, inl, inr, ℕ, ◌<◌, Some, true, false}
-use Rattle.std.proofs.Common.{refl, sym, ap, ◌∙◌, subst, arith, length}
-use Rattle.std.proofs.lemmas.Bool.{eqb-true}
-use Rattle.std.specs.Prelude.{◌==◌}
-use Rattle.lk_names.specs.Names.{same_waiter}
-use Rattle.lk_names.specs.History.{LockHistory}
-use Rattle.lk_names.specs.declared.names.Waiter.{Waiter}
-use Rattle.lk_names.specs.declared.names.LockName.{LockName}
-use Rattle.lk_rows.specs.declared.parts.Frame.{Frame}
-use Rattle.lk_rows.specs.declared.parts.Pc.{Pc}
-use Rattle.lk_rows.specs.declared.parts.Pc.TheVariants.{W6, E12}
-use Rattle.lk_rows.specs.Acts.{after_halt, kicked_awake, stands_halting, woken}
-use Rattle.lk_rows.specs.Machine.{Machine, frame_at, top_of, top_frame, halted_at, kicked_at, set_top, set_kicked}
-use Rattle.lk_rows.specs.rows.Pv.{is_set}
-use Rattle.lk_law.specs.Premises.{IsNewest}
-use Rattle.lk_law.specs.Sound.{world, ShowsAll}
-use Rattle.lk_law.specs.Steps.{put_halted, put_kicked}
-use Rattle.lk_law.specs.World.{World}
-use Rattle.lk_law.proofs.common.Puts.{if-true, if-false, not-true, same_waiter-else}
-use Rattle.lk_law.proofs.common.Sames.{same_waiter-self}
+use Rattle.std.proofs.Common.{◌≡◌, ◌⊎◌, inl, inr, ℕ, ◌<◌, Some, true, false, refl, sym, ap, ◌∙◌}
+use Rattle.std.proofs.Common.{subst, arith, length, ◌==◌}
+use Rattle.lk_progress.proofs.Names.{eqb-true, LockHistory, same_waiter, LockName, Waiter}
+use Rattle.lk_progress.proofs.Names.{after_halt, kicked_awake, stands_halting, woken, Machine}
+use Rattle.lk_progress.proofs.Names.{halted_at, kicked_at, set_kicked, top_frame, top_of, Frame, Pc}
+use Rattle.lk_progress.proofs.Names.{E12, W6, is_set, if-false, if-true, not-true, same_waiter-else}
+use Rattle.lk_progress.proofs.Names.{same_waiter-self, ShowsAll, world, put_halted, World}
+use Rattle.lk_progress.proofs.Names.{above_top, top_live, KeepsFrames, same_set_top, same_then}
+use Rattle.lk_progress.proofs.Names.{seated, world-set_top}
+use Rattle.lk_rows.specs.Machine.{frame_at, set_top}
 use Rattle.lk_law.proofs.pv.HaltsEnd.{halted_sleeps, sleeping_row}
-use Rattle.lk_core.proofs.Access.{above_top}
-use Rattle.lk_core.proofs.RowKept.{top_live}
-use Rattle.lk_core.proofs.Same.{KeepsFrames, same_then, same_set_top, same_set_halted}
-use Rattle.lk_core.proofs.Seated.{seated, world-set_top}
-use Rattle.lk_core.proofs.Worlds.{world-set_halted, world-set_kicked}
+use Rattle.lk_law.specs.{Premises.IsNewest, Steps.put_kicked}
 use Rattle.lk_waits.proofs.Changed.{Roused}
+use Rattle.lk_core.proofs.{Same.same_set_halted, Worlds.{world-set_halted, world-set_kicked}}
 use Rattle.lk_progress.proofs.Ranked.{shallow}
 
 -- the top frame of a processor is its newest

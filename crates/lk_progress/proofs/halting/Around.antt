@@ -1,31 +1,16 @@
 -- The row of a head that goes around leads it around, and leaves all numbers as they were.
-use Rattle.std.proofs.Common.{◌≡◌, ◌<◌, ◌+◌, ◌-◌, ℕ, arith, Option, Some, Bool, true, false}
-use Rattle.std.proofs.Common.{refl, sym, ap, ◌∙◌, [], ◌∷◌}
-use Rattle.std.specs.Prelude.{if◌then◌else◌, ◌&&◌, ◌==◌}
-use Rattle.lk_names.specs.History.{LockHistory}
-use Rattle.lk_names.specs.declared.names.LockName.{LockName}
-use Rattle.lk_names.specs.declared.names.Waiter.{Waiter}
-use Rattle.lk_word.specs.declared.spin_word.Fields.{Fields}
-use Rattle.lk_word.specs.declared.spin_word.Locked.{Locked}
-use Rattle.lk_word.specs.declared.spin_word.Locked.TheVariants.{Held}
-use Rattle.lk_word.specs.declared.spin_word.NodeName.{NodeName}
-use Rattle.lk_rows.specs.declared.parts.Frame.{Frame}
-use Rattle.lk_rows.specs.declared.parts.Pc.{Pc}
-use Rattle.lk_rows.specs.declared.parts.Pc.TheVariants.{E2, E3, E4, E5, E6, E10, E11, E12}
-use Rattle.lk_rows.specs.declared.parts.State.TheVariants as state
-use Rattle.lk_rows.specs.Moves.{node_of}
-use Rattle.lk_rows.specs.Row.{Effect, Lead, Goes, Left, learns}
-use Rattle.lk_rows.specs.rows.Pv.{is_slow_byte}
-use Rattle.lk_rows.specs.rows.Spin.{is_unlocked}
-use Rattle.lk_rows.specs.TopRow.{target}
-use Rattle.lk_law.specs.Leads.{course_in, stored_in}
-use Rattle.lk_law.specs.SpinWorld.{IsSoundSpinWorld}
-use Rattle.lk_law.specs.Steps.{led, stores_word}
-use Rattle.lk_law.specs.World.{World}
-use Rattle.lk_waits.specs.Halting.{goes_around, IsRobbed}
-use Rattle.lk_progress.specs.HaltingMeasure.{halting_left_at, halting_left, head_turn, halting_turn_at, halting_turn_if, halting_turn_of, HaltingTurnStays}
-use Rattle.lk_progress.specs.Measure.{goes}
+use Rattle.std.proofs.Common.{◌≡◌, ◌<◌, ◌+◌, ◌-◌, ℕ, arith, Option, Some, Bool, true, false, refl}
+use Rattle.std.proofs.Common.{sym, ap, ◌∙◌, [], ◌∷◌, if◌then◌else◌, ◌&&◌, ◌==◌}
+use Rattle.lk_progress.proofs.Names.{Fields, Locked, Held, NodeName, LockHistory, LockName, Waiter}
+use Rattle.lk_progress.proofs.Names.{node_of, Effect, Goes, Lead, target, Frame, Pc, E2, E3, E4, E5}
+use Rattle.lk_progress.proofs.Names.{E6, E10, E11, E12, is_slow_byte, is_unlocked, course_in}
+use Rattle.lk_progress.proofs.Names.{stored_in, IsSoundSpinWorld, led, stores_word, World, IsRobbed}
+use Rattle.lk_progress.proofs.Names.{goes_around, HaltingTurnStays, halting_left, halting_left_at}
+use Rattle.lk_progress.proofs.Names.{halting_turn_at, halting_turn_if, halting_turn_of, head_turn}
+use Rattle.lk_progress.proofs.Names.{goes}
+use Rattle.lk_rows.specs.Row.{Left, learns}
 use Rattle.lk_progress.proofs.halting.Parts.{behind, Calm, calm_self, calm_state, calm_pending}
+use Rattle.lk_rows.specs.declared.parts.State.TheVariants as state
 
 -- how many steps a head is from a row at which it is not pending
 abbrev pub unrest : Pc → Frame → ℕ

@@ -1,50 +1,27 @@
 -- Who would lead on where the heads that go around rest would lead on wherever they have gone.
-use Rattle.std.proofs.Common.{◌≡◌, ◌⊎◌, inl, inr, ℕ, ◌<◌, ◌≤◌, Option, Some, None, Bool, true, false, refl, sym, ap, ◌∙◌, subst, arith, length}
-use Rattle.std.proofs.lemmas.Bool.{cases_Bool, cases_lt}
-use Rattle.std.specs.Prelude.{if◌then◌else◌, is_some, ◌&&◌, not, unwrap_or}
-use Rattle.lk_names.specs.History.{LockHistory}
-use Rattle.lk_names.specs.declared.events.Act.TheVariants as act
-use Rattle.lk_names.specs.declared.names.LockName.{LockName}
-use Rattle.lk_names.specs.declared.names.Mode.{Mode}
-use Rattle.lk_names.specs.declared.names.Waiter.{Waiter}
-use Rattle.lk_word.specs.declared.rw_word.RwFields.{RwFields}
-use Rattle.lk_word.specs.declared.spin_word.Locked.{Locked}
-use Rattle.lk_word.specs.declared.spin_word.Locked.TheVariants.{Held}
-use Rattle.lk_word.specs.declared.spin_word.NodeName.{NodeName}
-use Rattle.lk_rows.specs.declared.parts.Frame.{Frame}
-use Rattle.lk_rows.specs.declared.parts.Pc.{Pc}
-use Rattle.lk_rows.specs.declared.parts.Pc.TheVariants.{E2, E3, E4, E5, E10, E11, E14, H1, H2, R2, R5, Wr5}
-use Rattle.lk_rows.specs.declared.setup.Setup.{Setup}
-use Rattle.lk_rows.specs.Acts.{idle, kicked_awake, next, stands_halting}
-use Rattle.lk_rows.specs.Machine.{Machine, frame_at, halted_at, kicked_at, preempted_at, rest_frame, rw_at, top_frame, top_of, word_at}
-use Rattle.lk_rows.specs.Moves.{node_of}
-use Rattle.lk_rows.specs.rows.Pv.{after_given_up, after_glance, pv_after_next}
-use Rattle.lk_rows.specs.rows.Rw.{rw_row}
-use Rattle.lk_rows.specs.rows.Spin.{is_unlocked}
-use Rattle.lk_rows.specs.TopRow.{row, row_at, target}
-use Rattle.lk_law.specs.Agree.{halts}
-use Rattle.lk_law.specs.Leads.{course_in}
-use Rattle.lk_law.specs.Phase.Phase.{Leads}
-use Rattle.lk_law.specs.Places.{phase_at}
-use Rattle.lk_law.specs.Sound.{ShowsAll, world}
-use Rattle.lk_law.specs.SoundWorld.{spin_part}
-use Rattle.lk_law.specs.Steps.{led}
+use Rattle.std.proofs.Common.{◌≡◌, ◌⊎◌, inl, inr, ℕ, ◌<◌, ◌≤◌, Option, Some, None, Bool, true}
+use Rattle.std.proofs.Common.{false, refl, sym, ap, ◌∙◌, subst, arith, length, if◌then◌else◌}
+use Rattle.std.proofs.Common.{is_some, ◌&&◌, not}
+use Rattle.std.specs.Prelude.{unwrap_or}
+use Rattle.lk_progress.proofs.Names.{cases_Bool, cases_lt, RwFields, Locked, Held, NodeName}
+use Rattle.lk_progress.proofs.Names.{LockHistory, LockName, Mode, Waiter, idle, kicked_awake, next}
+use Rattle.lk_progress.proofs.Names.{stands_halting, Machine, halted_at, kicked_at, rw_at}
+use Rattle.lk_progress.proofs.Names.{top_frame, top_of, word_at, node_of, row, row_at, target}
+use Rattle.lk_progress.proofs.Names.{Frame, Pc, E2, E3, E4, E5, E10, E11, E14, H1, H2, R2, R5, Wr5}
+use Rattle.lk_progress.proofs.Names.{Setup, after_given_up, after_glance, pv_after_next, rw_row}
+use Rattle.lk_progress.proofs.Names.{is_unlocked, halts, course_in, phase_at, ShowsAll, world}
+use Rattle.lk_progress.proofs.Names.{spin_part, led, still_looks_at, goes_around, frame_within}
+use Rattle.lk_progress.proofs.Names.{top_live, GoesAround}
+use Rattle.lk_rows.specs.Machine.{frame_at, preempted_at, rest_frame}
 use Rattle.lk_law.proofs.common.Cases.{lock_cases}
-use Rattle.lk_core.proofs.Access.{frame_within}
-use Rattle.lk_core.proofs.RowKept.{top_live}
-use Rattle.lk_waits.specs.Halting.{goes_around}
+use Rattle.lk_law.specs.Phase.Phase.{Leads}
+use Rattle.lk_waits.proofs.HaltingStands.{looks_on, same_frame}
+use Rattle.lk_progress.proofs.{Reached.row_stuck, Runs.all_or, RunsHalting.{row_halts, step_is}}
+use Rattle.lk_progress.proofs.{Woken.kicked_runs, halting.Around.unrest}
+use Rattle.lk_progress.proofs.{halting.Calm.{unrest_if, unrest_of}, halting.Knows.unset}
+use Rattle.lk_progress.proofs.{halting.Like.{LikeHalting, around_or}, halting.Potential.as_it_was}
+use Rattle.lk_names.specs.declared.events.Act.TheVariants as act
 use Rattle.lk_waits.specs.Waits as waits
-use Rattle.lk_waits.proofs.HaltingStands.{looks_on, same_frame, still_looks_at}
-use Rattle.lk_progress.specs.Runs.{GoesAround}
-use Rattle.lk_progress.proofs.halting.Around.{unrest}
-use Rattle.lk_progress.proofs.halting.Calm.{unrest_if, unrest_of}
-use Rattle.lk_progress.proofs.halting.Knows.{unset}
-use Rattle.lk_progress.proofs.halting.Like.{LikeHalting, around_or}
-use Rattle.lk_progress.proofs.halting.Potential.{as_it_was}
-use Rattle.lk_progress.proofs.Reached.{row_stuck}
-use Rattle.lk_progress.proofs.Runs.{all_or}
-use Rattle.lk_progress.proofs.RunsHalting.{row_halts, step_is}
-use Rattle.lk_progress.proofs.Woken.{kicked_runs}
 
 -- where a look for a lock leads, by whether its byte is free, it is pending, and it has a tail
 abbrev glance_of : (free pending tail : Bool) → Option NodeName → Pc

@@ -1,27 +1,18 @@
 -- On what the turn of a frame depends where processors halt, and how long it is at most.
-use Rattle.std.proofs.Common.{◌≡◌, ◌⊎◌, ℕ, ◌≤◌, ◌+◌, ◌*◌, inl, inr, Option, Some, None, Bool, true, false, refl, sym, ap, ◌∙◌, subst, arith, length}
-use Rattle.std.specs.Prelude.{if◌then◌else◌, is_some}
-use Rattle.lk_names.specs.declared.names.LockName.{LockName}
-use Rattle.lk_names.specs.declared.names.Waiter.{Waiter}
-use Rattle.lk_word.specs.declared.rw_word.RwFields.{RwFields}
-use Rattle.lk_word.specs.declared.spin_word.Locked.{Locked}
-use Rattle.lk_word.specs.declared.spin_word.Locked.TheVariants.{Free, Held, Slow}
-use Rattle.lk_word.specs.declared.spin_word.NodeName.{NodeName}
-use Rattle.lk_rows.specs.declared.parts.Flag.{Flag}
-use Rattle.lk_rows.specs.declared.parts.Frame.{Frame}
-use Rattle.lk_rows.specs.declared.parts.Pc.{Pc}
-use Rattle.lk_rows.specs.declared.parts.Pc.TheVariants.{H1, H2, W1, W2, W3, W4, W5, W6, W7, E2, E3, E4, E5, E10, E11, E12, Wr5, Wr6}
-use Rattle.lk_rows.specs.Acts.{stands_halting}
-use Rattle.lk_rows.specs.Machine.{Machine, frame_at, kicked_at}
-use Rattle.lk_rows.specs.Moves.{node_of}
-use Rattle.lk_rows.specs.rows.Pv.{is_set}
-use Rattle.lk_rows.specs.rows.Rw.{is_cleared}
-use Rattle.lk_rows.specs.rows.Spin.{is_unlocked}
-use Rattle.lk_law.specs.Sound.{world}
-use Rattle.lk_law.specs.World.{World}
-use Rattle.lk_progress.specs.HaltingMeasure.{unlike, head_turn, is_flagged, halting_turn_at, halting_turn_if, halting_turn_of, longest_turn, KeepsTurns}
-use Rattle.lk_progress.specs.HaltingPrice.{six_turns, kick_turns, halting_cpu_turns, halting_debt, halting_turns, SpinsAreFew}
+use Rattle.std.proofs.Common.{◌≡◌, ◌⊎◌, ℕ, ◌≤◌, ◌+◌, ◌*◌, inl, inr, Option, Some, None, Bool, true}
+use Rattle.std.proofs.Common.{false, refl, sym, ap, ◌∙◌, subst, arith, length, if◌then◌else◌}
+use Rattle.std.proofs.Common.{is_some}
+use Rattle.lk_progress.proofs.Names.{RwFields, Locked, Free, Held, Slow, NodeName, LockName, Waiter}
+use Rattle.lk_progress.proofs.Names.{stands_halting, Machine, kicked_at, node_of, Flag, Frame, Pc}
+use Rattle.lk_progress.proofs.Names.{E2, E3, E4, E5, E10, E11, E12, H1, H2, W1, W2, W3, W4, W5, W6}
+use Rattle.lk_progress.proofs.Names.{W7, Wr5, Wr6, is_set, is_cleared, is_unlocked, world, World}
+use Rattle.lk_progress.proofs.Names.{KeepsTurns, halting_turn_at, halting_turn_if, halting_turn_of}
+use Rattle.lk_progress.proofs.Names.{head_turn, SpinsAreFew, halting_debt, halting_turns}
+use Rattle.lk_progress.proofs.Names.{kick_turns}
+use Rattle.lk_rows.specs.Machine.{frame_at}
 use Rattle.lk_progress.proofs.Sums.{six_most, sum_most}
+use Rattle.lk_progress.specs.HaltingMeasure.{unlike, is_flagged, longest_turn}
+use Rattle.lk_progress.specs.HaltingPrice.{six_turns, halting_cpu_turns}
 
 -- one store after another
 pub keeps_then : (a b c : World) → KeepsTurns a b → KeepsTurns b c → KeepsTurns a c

@@ -1,43 +1,33 @@
 -- Where processors halt every act lowers the price that changes something and leads somebody on, but for the ends of
 -- halts without a kick.
-use Rattle.std.proofs.Common.{◌≡◌, ◌≢◌, ◌⊎◌, inl, inr, ℕ, suc, ◌<◌, ◌≤◌, ◌+◌, ◌*◌, None, Bool}
-use Rattle.std.proofs.Common.{true, false, refl, sym, ap, ◌∙◌, subst, arith, List, [], ◌∷◌, length}
-use Rattle.std.proofs.lemmas.Bool.{cases_Bool, or_parts, leb-false}
-use Rattle.std.specs.Prelude.{if◌then◌else◌, ◌||◌, ◌&&◌, not, nat_le}
-use Rattle.lk_names.specs.History.{LockHistory, history_of}
-use Rattle.lk_names.specs.declared.names.LockName.{LockName}
-use Rattle.lk_names.specs.declared.events.Act.{Act}
-use Rattle.lk_names.specs.declared.events.Event.{Event}
-use Rattle.lk_names.specs.declared.events.Act.TheVariants as act
-use Rattle.lk_rows.specs.declared.setup.Setup.{Setup}
-use Rattle.lk_rows.specs.declared.parts.Frame.{Frame}
-use Rattle.lk_rows.specs.Machine.{Machine, frame_at, top_of, top_frame, preempted_at, halted_at, kicked_at, handlers_at, depth_at, HasTop}
-use Rattle.lk_rows.specs.Machine.{set_preempted, set_kicked, push}
-use Rattle.lk_rows.specs.Moves.{settled}
-use Rattle.lk_rows.specs.Programs.{handlers_of}
-use Rattle.lk_rows.specs.TopRow.{row}
-use Rattle.lk_rows.specs.Acts.{next, idle, step_halted, kicked_awake, nudged, interrupted, processor_of, is_shut, handler_frame, stands_halting, woken, awake}
-use Rattle.lk_law.specs.Agree.{halts}
-use Rattle.lk_law.specs.Kicked.{with_event}
-use Rattle.lk_law.specs.MachineLaws.{ShowsLawful}
-use Rattle.lk_law.specs.Sound.{ShowsAll}
+use Rattle.std.proofs.Common.{◌≡◌, ◌≢◌, ◌⊎◌, inl, inr, ℕ, suc, ◌<◌, ◌≤◌, ◌+◌, ◌*◌, None, Bool, true}
+use Rattle.std.proofs.Common.{false, refl, sym, ap, ◌∙◌, subst, arith, List, [], ◌∷◌, length}
+use Rattle.std.proofs.Common.{if◌then◌else◌, ◌||◌, ◌&&◌, not, nat_le}
+use Rattle.lk_progress.proofs.Names.{cases_Bool, leb-false, or_parts, LockHistory, history_of, Act}
+use Rattle.lk_progress.proofs.Names.{Event, LockName, handler_frame, idle, is_shut, kicked_awake}
+use Rattle.lk_progress.proofs.Names.{next, nudged, processor_of, stands_halting, step_halted, woken}
+use Rattle.lk_progress.proofs.Names.{Machine, halted_at, handlers_at, kicked_at, push}
+use Rattle.lk_progress.proofs.Names.{set_preempted, top_frame, settled}
+use Rattle.lk_progress.proofs.Names.{handlers_of, row, Frame, Setup, halts, with_event, ShowsLawful}
+use Rattle.lk_progress.proofs.Names.{ShowsAll, World, act_kept, acts_keep, KeepsFrames}
+use Rattle.lk_progress.proofs.Names.{world-set_preempted, setup_kept, halting_turn_of, SpinsAreFew}
+use Rattle.lk_progress.proofs.Names.{halting_budget, halting_cpu_weight, halting_debt}
+use Rattle.lk_progress.proofs.Names.{halting_turns, halting_weight, kick_turns, is_pause, sum_below}
+use Rattle.lk_rows.specs.{Acts.{interrupted, awake}, Machine.{frame_at, preempted_at, depth_at}}
 use Rattle.lk_law.specs.Steps.{told_on}
-use Rattle.lk_law.specs.World.{World}
-use Rattle.lk_core.proofs.ActKept.{act_kept}
-use Rattle.lk_core.proofs.Runs.{acts_keep}
-use Rattle.lk_core.proofs.Same.{same_set_preempted, same_self, KeepsFrames}
-use Rattle.lk_core.proofs.Seated.{world-set_preempted}
-use Rattle.lk_core.proofs.Setups.{setup_kept}
-use Rattle.lk_progress.specs.HaltingMeasure.{halting_turn_of}
-use Rattle.lk_progress.specs.HaltingPrice.{halting_weight, halting_cpu_weight, halting_budget, halting_debt, halting_turns}
-use Rattle.lk_progress.specs.HaltingPrice.{six_turns, kick_turns, halting_cost, halting_price, SpinsAreFew, is_nudge, HaltingLeadsNobodyOn}
-use Rattle.lk_progress.specs.HaltingPrice.{HaltingActsLower, HaltingPriceFalls, HasHaltingChanges, HaltingRunsAreShort}
-use Rattle.lk_progress.specs.Potential.{sum_below, is_pause}
-use Rattle.lk_progress.proofs.halting.Ends.{cpus_is, pending_same, weight_same, comes, comes_spins, woken_budget, woken_spins, kicked_budget, kicked_spins, kick_pays}
+use Rattle.lk_core.proofs.Same.{same_set_preempted, same_self}
+use Rattle.lk_progress.proofs.{Sums.{sum_same, times_less}, Woken.woken_keeps}
 use Rattle.lk_progress.proofs.halting.Bound.{halting_turns_few}
-use Rattle.lk_progress.proofs.halting.Potential.{Circles, halting_lowers, halting_handlers, row_spins}
-use Rattle.lk_progress.proofs.Sums.{sum_same, times_less}
-use Rattle.lk_progress.proofs.Woken.{woken_keeps}
+use Rattle.lk_progress.proofs.halting.Ends.{cpus_is, pending_same, weight_same, comes, comes_spins}
+use Rattle.lk_progress.proofs.halting.Ends.{woken_budget, woken_spins, kicked_budget, kicked_spins}
+use Rattle.lk_progress.proofs.halting.Ends.{kick_pays}
+use Rattle.lk_progress.proofs.halting.Potential.{Circles, halting_lowers, halting_handlers}
+use Rattle.lk_progress.proofs.halting.Potential.{row_spins}
+use Rattle.lk_progress.specs.HaltingPrice.{six_turns, halting_cost, halting_price, is_nudge}
+use Rattle.lk_progress.specs.HaltingPrice.{HaltingLeadsNobodyOn, HaltingActsLower}
+use Rattle.lk_progress.specs.HaltingPrice.{HaltingPriceFalls, HasHaltingChanges}
+use Rattle.lk_progress.specs.HaltingPrice.{HaltingRunsAreShort}
+use Rattle.lk_names.specs.declared.events.Act.TheVariants as act
 
 module _ (m : Machine) (hs : LockName → LockHistory) (shows : ShowsAll m hs) (on : halts m.setup.mode ≡ true) where
   -- a pause

@@ -1,44 +1,27 @@
 -- From each machine to which an ordered setup comes, heads that go around can be led to rows at which no lock is pending.
-use Rattle.std.proofs.Common.{◌≡◌, ◌≢◌, inl, inr, ℕ, zero, suc, ◌<◌, ◌≤◌, ◌-◌, Option, Some, None, List, [], ◌∷◌}
-use Rattle.std.proofs.Common.{true, false, refl, sym, ap, ◌∙◌, subst, arith, length}
-use Rattle.std.proofs.lemmas.Bool.{cases_Bool, cases_eq}
-use Rattle.std.specs.Prelude.{slice_set}
-use Rattle.lk_names.specs.History.{LockHistory, history_of}
-use Rattle.lk_names.specs.declared.names.LockName.{LockName}
-use Rattle.lk_names.specs.declared.events.Act.TheVariants as act
-use Rattle.lk_word.specs.declared.spin_word.Fields.{Fields}
-use Rattle.lk_word.specs.declared.spin_word.NodeName.{NodeName}
-use Rattle.lk_rows.specs.declared.parts.Node.{Node}
-use Rattle.lk_rows.specs.declared.parts.State.{State}
-use Rattle.lk_rows.specs.declared.parts.Frame.{Frame}
-use Rattle.lk_rows.specs.declared.parts.Pc.{Pc}
-use Rattle.lk_rows.specs.declared.parts.Pc.TheVariants.{E2, E3, E4, E5, E10, E11}
-use Rattle.lk_rows.specs.declared.setup.Setup.{Setup}
-use Rattle.lk_rows.specs.Acts.{next, stands_halting}
-use Rattle.lk_rows.specs.Machine.{Machine, CpuState, no_cpu, cpu_at, depth_at, node_at, word_at, top_of, top_frame, preempted_at, halted_at, set_cpu, set_counts, set_lock, set_node, set_top, set_word}
-use Rattle.lk_rows.specs.Moves.{node_of}
-use Rattle.lk_rows.specs.Row.{Counter, Effect, Lead, Goes, Enters, Granted, Freed, Missed, Done, TakesWait, Leaves, Yields, counted, gone, moved}
+use Rattle.std.proofs.Common.{◌≡◌, ◌≢◌, inl, inr, ℕ, zero, suc, ◌<◌, ◌≤◌, ◌-◌, Option, Some, None}
+use Rattle.std.proofs.Common.{List, [], ◌∷◌, true, false, refl, sym, ap, ◌∙◌, subst, arith, length}
+use Rattle.std.proofs.Common.{slice_set}
+use Rattle.lk_progress.proofs.Names.{cases_Bool, cases_eq, Fields, NodeName, LockHistory}
+use Rattle.lk_progress.proofs.Names.{history_of, LockName, next, stands_halting, CpuState, Machine}
+use Rattle.lk_progress.proofs.Names.{halted_at, no_cpu, top_frame, top_of, word_at, node_of, Done}
+use Rattle.lk_progress.proofs.Names.{Effect, Enters, Freed, Goes, Granted, Lead, Leaves, Missed}
+use Rattle.lk_progress.proofs.Names.{TakesWait, Yields, gone, moved, row_at, row_on, target, Frame}
+use Rattle.lk_progress.proofs.Names.{Node, Pc, E2, E3, E4, E5, E10, E11, State, Setup, halts}
+use Rattle.lk_progress.proofs.Names.{course_in, ShowsAll, world, spin_part, IsHeadServed}
+use Rattle.lk_progress.proofs.Names.{goes_around, top_live, setup_kept, HaltingTurnStays, goes}
+use Rattle.lk_progress.proofs.Names.{GoesAround}
+use Rattle.lk_rows.specs.Machine.{cpu_at, depth_at, node_at, preempted_at, set_cpu, set_counts}
+use Rattle.lk_rows.specs.{Machine.{set_lock, set_node, set_top, set_word}, Row.{Counter, counted}}
+use Rattle.lk_rows.specs.TopRow.{on_state, on_word, stored_state, stored_word}
 use Rattle.lk_rows.specs.rows.Pv.{pv_row, state_row}
-use Rattle.lk_rows.specs.TopRow.{on_state, on_word, row_at, row_on, stored_state, stored_word, target}
-use Rattle.lk_law.specs.Agree.{halts}
-use Rattle.lk_law.specs.Leads.{course_in}
-use Rattle.lk_law.specs.Sound.{ShowsAll, world}
-use Rattle.lk_law.specs.SoundWorld.{spin_part}
-use Rattle.lk_core.proofs.RowKept.{top_live}
-use Rattle.lk_core.proofs.Setups.{setup_kept}
-use Rattle.lk_waits.specs.Halting.{IsHeadServed, goes_around}
-use Rattle.lk_progress.specs.HaltingMeasure.{HaltingTurnStays}
-use Rattle.lk_progress.specs.Measure.{goes}
-use Rattle.lk_progress.specs.Runs.{GoesAround}
-use Rattle.lk_progress.proofs.Good.{IsHalting}
-use Rattle.lk_progress.proofs.halting.Around.{robbed_stays, unrest}
-use Rattle.lk_progress.proofs.halting.Ends.{cpus_is}
-use Rattle.lk_progress.proofs.halting.Like.{LikeHalting, around_back, around_or, circle_like, like_self, like_then, others_same, round_now}
+use Rattle.lk_progress.proofs.{Good.IsHalting, Reached.{Reached, reached}, Rows.set_like}
+use Rattle.lk_progress.proofs.{RunsHalting.kept_served, Woken.sleeping_place}
+use Rattle.lk_progress.proofs.{halting.Around.{robbed_stays, unrest}, halting.Ends.cpus_is}
+use Rattle.lk_progress.proofs.halting.Like.{LikeHalting, around_back, around_or, circle_like}
+use Rattle.lk_progress.proofs.halting.Like.{like_self, like_then, others_same, round_now}
 use Rattle.lk_progress.proofs.halting.Potential.{Circles, circle_at, step_row}
-use Rattle.lk_progress.proofs.Reached.{Reached, reached}
-use Rattle.lk_progress.proofs.Rows.{set_like}
-use Rattle.lk_progress.proofs.RunsHalting.{kept_served}
-use Rattle.lk_progress.proofs.Woken.{sleeping_place}
+use Rattle.lk_names.specs.declared.events.Act.TheVariants as act
 
 -- a row of a head that goes around preempts nobody
 

@@ -1,13 +1,13 @@
 -- Where processors halt, each row leaves its frame as it was, or leaves it fewer rows, or leads it on in its turn, or is
 -- that of a head which goes around: the theorem.
 use Rattle.std.proofs.Common.{◌≡◌, inl, inr, Option, Some, sym, ap, ◌∙◌, arith}
-use Rattle.lk_rows.specs.declared.parts.Pc.{Pc}
-use Rattle.lk_law.specs.Registers.{ChoiceFits, counts_turns, needs_hash}
-use Rattle.lk_law.specs.Families.{chooses, stays_awake}
-use Rattle.lk_law.proofs.common.Puts.{not-true}
+use Rattle.lk_progress.proofs.Names.{Pc, not-true, chooses, stays_awake, halting_left}
+use Rattle.lk_progress.proofs.Names.{halting_left_at, halting_turn_at, halting_turn_if}
+use Rattle.lk_progress.proofs.Names.{halting_turn_of}
 use Rattle.lk_law.proofs.pv.Laws.{halts_flat}
-use Rattle.lk_progress.specs.HaltingMeasure.{halting_left_at, halting_left, halting_turn_at, halting_turn_if, halting_turn_of, HaltingRowDescends}
+use Rattle.lk_law.specs.Registers.{ChoiceFits, counts_turns, needs_hash}
 use Rattle.lk_progress.proofs.halting.Turns.{pv}
+use Rattle.lk_progress.specs.HaltingMeasure.{HaltingRowDescends}
 
 pub halting_row_descends : (c : Pc) → HaltingRowDescends c
 halting_row_descends c m hs w f ok on live at inner up =

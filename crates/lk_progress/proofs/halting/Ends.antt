@@ -1,44 +1,28 @@
 -- Where processors halt: what an interrupt that comes leaves, and what the end of a halt does.
-use Rattle.std.proofs.Common.{◌≡◌, ◌≢◌, ◌⊎◌, inl, inr, ℕ, ◌<◌, ◌≤◌, ◌+◌, ◌-◌, ◌*◌, Option, Some, None, Bool}
-use Rattle.std.proofs.Common.{true, false, refl, sym, ap, ◌∙◌, subst, arith, length}
-use Rattle.std.proofs.lemmas.Bool.{cases_lt, cases_eq, eqb-true}
-use Rattle.std.specs.Prelude.{if◌then◌else◌, ◌==◌, nat_lt}
-use Rattle.lk_names.specs.Names.{same_waiter}
-use Rattle.lk_names.specs.History.{LockHistory}
-use Rattle.lk_names.specs.declared.names.Waiter.{Waiter}
-use Rattle.lk_names.specs.declared.names.LockName.{LockName}
-use Rattle.lk_names.specs.declared.events.Act.{Act}
-use Rattle.lk_rows.specs.declared.setup.Setup.{Setup}
-use Rattle.lk_rows.specs.declared.parts.Frame.{Frame}
-use Rattle.lk_rows.specs.declared.parts.Pc.{Pc}
-use Rattle.lk_rows.specs.declared.parts.Pc.TheVariants.{W6, W7, E2, E12}
-use Rattle.lk_rows.specs.Machine.{Machine, frame_at, top_of, top_frame, halted_at, kicked_at, handlers_at, depth_at, HasTop}
-use Rattle.lk_rows.specs.Machine.{set_kicked, push}
-use Rattle.lk_rows.specs.Moves.{program_of, started, settled}
-use Rattle.lk_rows.specs.Programs.{handlers_of, program_at}
-use Rattle.lk_rows.specs.Acts.{next, processor_of, handler_frame, woken, after_halt}
-use Rattle.lk_law.specs.Agree.{halts}
-use Rattle.lk_law.specs.Sound.{ShowsAll, world}
-use Rattle.lk_law.specs.Steps.{put_halted, put_kicked}
-use Rattle.lk_law.specs.World.{World}
-use Rattle.lk_law.proofs.common.Cases.{waiter_cases}
-use Rattle.lk_law.proofs.common.Puts.{if-true, if-false, not-true, same_waiter-else}
-use Rattle.lk_law.proofs.common.Sames.{same_waiter-self}
-use Rattle.lk_core.proofs.Access.{above_top}
-use Rattle.lk_core.proofs.ActKept.{act_kept}
-use Rattle.lk_core.proofs.Same.{tops_push, depth_push, handlers_push, handlers_push_other, same_set_kicked, same_then, KeepsFrames}
-use Rattle.lk_core.proofs.Seated.{next_of, seated, world-push}
-use Rattle.lk_core.proofs.Setups.{setup_kept}
-use Rattle.lk_progress.specs.HaltingMeasure.{halting_left, halting_left_at, halting_turn_of}
-use Rattle.lk_progress.specs.HaltingPrice.{halting_weight, halting_cpu_weight, halting_pending, halting_budget, halting_debt, halting_turns}
-use Rattle.lk_progress.specs.HaltingPrice.{kick_turns, SpinsAreFew}
-use Rattle.lk_progress.specs.Potential.{sum_below}
-use Rattle.lk_progress.proofs.halting.Bound.{cpu_turns_few, turn_alike}
-use Rattle.lk_progress.proofs.halting.Potential.{frames_left}
-use Rattle.lk_progress.proofs.halting.Spins.{halting_begin_is_short}
+use Rattle.std.proofs.Common.{◌≡◌, ◌≢◌, ◌⊎◌, inl, inr, ℕ, ◌<◌, ◌≤◌, ◌+◌, ◌-◌, ◌*◌, Option, Some}
+use Rattle.std.proofs.Common.{None, Bool, true, false, refl, sym, ap, ◌∙◌, subst, arith, length}
+use Rattle.std.proofs.Common.{if◌then◌else◌, ◌==◌, nat_lt}
+use Rattle.lk_progress.proofs.Names.{cases_eq, cases_lt, eqb-true, LockHistory, same_waiter, Act}
+use Rattle.lk_progress.proofs.Names.{LockName, Waiter, after_halt, handler_frame, next}
+use Rattle.lk_progress.proofs.Names.{processor_of, woken, HasTop, Machine, halted_at, handlers_at}
+use Rattle.lk_progress.proofs.Names.{kicked_at, push, set_kicked, top_frame, top_of, program_of}
+use Rattle.lk_progress.proofs.Names.{settled, started, handlers_of, program_at, Frame, Pc, E2, E12}
+use Rattle.lk_progress.proofs.Names.{W6, W7, Setup, waiter_cases, if-false, if-true, not-true}
+use Rattle.lk_progress.proofs.Names.{same_waiter-else, same_waiter-self, halts, ShowsAll, world}
+use Rattle.lk_progress.proofs.Names.{put_halted, World, above_top, act_kept, KeepsFrames}
+use Rattle.lk_progress.proofs.Names.{depth_push, same_then, tops_push, next_of, seated, world-push}
+use Rattle.lk_progress.proofs.Names.{setup_kept, halting_left, halting_left_at, halting_turn_of}
+use Rattle.lk_progress.proofs.Names.{SpinsAreFew, halting_budget, halting_cpu_weight, halting_debt}
+use Rattle.lk_progress.proofs.Names.{halting_turns, halting_weight, kick_turns, sum_below}
+use Rattle.lk_rows.specs.Machine.{frame_at, depth_at}
+use Rattle.lk_law.specs.Steps.{put_kicked}
+use Rattle.lk_core.proofs.Same.{handlers_push, handlers_push_other, same_set_kicked}
 use Rattle.lk_progress.proofs.Moves.{Settles, Settled, settled_is}
 use Rattle.lk_progress.proofs.Sums.{sum_fall, sum_same, sum_more, total_same}
-use Rattle.lk_progress.proofs.Woken.{woken_keeps, woken_is, kick_is, kicked_is, roused_is, sleeps, on_top}
+use Rattle.lk_progress.proofs.Woken.{woken_keeps, woken_is, kick_is, kicked_is, roused_is, sleeps}
+use Rattle.lk_progress.proofs.{Woken.on_top, halting.Bound.{cpu_turns_few, turn_alike}}
+use Rattle.lk_progress.proofs.{halting.Potential.frames_left, halting.Spins.halting_begin_is_short}
+use Rattle.lk_progress.specs.HaltingPrice.{halting_pending}
 
 module _ (m : Machine) (hs : LockName → LockHistory) (shows : ShowsAll m hs) (on : halts m.setup.mode ≡ true) where
   pub cpus_is : (a : Act) → processor_of a < length m.cpus → length (next m a).0.cpus ≡ length m.cpus

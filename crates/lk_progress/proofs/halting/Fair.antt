@@ -1,37 +1,25 @@
 -- Where processors halt, everybody finishes under a fair schedule in which nudges come to an end.
-use Rattle.std.proofs.Common.{◌≡◌, ◌⊎◌, inl, inr, ℕ, zero, suc, ◌<◌, ◌≤◌, ◌+◌, ◌-◌, Bool, true, false, None, Some}
-use Rattle.std.proofs.Common.{refl, sym, ap, ◌∙◌, subst, arith, length}
-use Rattle.std.specs.Prelude.{if◌then◌else◌}
-use Rattle.lk_names.specs.History.{LockHistory, history_of}
-use Rattle.lk_names.specs.declared.events.Act.{Act}
-use Rattle.lk_names.specs.declared.events.Act.TheVariants as act
-use Rattle.lk_names.specs.declared.names.LockName.{LockName}
-use Rattle.lk_rows.specs.declared.parts.Frame.{Frame}
-use Rattle.lk_rows.specs.declared.setup.Setup.{Setup}
-use Rattle.lk_rows.specs.Acts.{idle, next, processor_of}
-use Rattle.lk_rows.specs.Machine.{Machine, preempted_at, set_preempted, top_frame}
-use Rattle.lk_rows.specs.Programs.{IsLawfulSetup}
-use Rattle.lk_law.specs.Agree.{halts}
+use Rattle.std.proofs.Common.{◌≡◌, ◌⊎◌, inl, inr, ℕ, zero, suc, ◌<◌, ◌≤◌, ◌+◌, ◌-◌, Bool, true}
+use Rattle.std.proofs.Common.{false, None, Some, refl, sym, ap, ◌∙◌, subst, arith, length}
+use Rattle.std.proofs.Common.{if◌then◌else◌}
+use Rattle.lk_progress.proofs.Names.{LockHistory, history_of, Act, LockName, idle, next}
+use Rattle.lk_progress.proofs.Names.{processor_of, Machine, set_preempted, top_frame, IsLawfulSetup}
+use Rattle.lk_progress.proofs.Names.{Frame, Setup, halts, IsHeadServed, setup_kept, SpinsAreFew}
+use Rattle.lk_progress.proofs.Names.{IsOrdered, is_pause, GoesAround, IsFinished, StepsNowhere}
+use Rattle.lk_rows.specs.Machine.{preempted_at}
 use Rattle.lk_core.proofs.IdleActs.{preempted_now}
-use Rattle.lk_core.proofs.Setups.{setup_kept}
-use Rattle.lk_waits.specs.Halting.{IsHeadServed}
-use Rattle.lk_progress.specs.Fair.{after_first, processors, IsRound, IsFair, HaltingFairRunsFinish}
-use Rattle.lk_progress.specs.HaltingPrice.{halting_price, is_nudge, SpinsAreFew}
-use Rattle.lk_progress.specs.Ordered.{IsOrdered}
-use Rattle.lk_progress.specs.Potential.{is_pause}
-use Rattle.lk_progress.specs.Runs.{GoesAround, IsFinished, StepsNowhere}
-use Rattle.lk_progress.proofs.Good.{IsHalting}
+use Rattle.lk_progress.proofs.{Good.IsHalting, HaltingSteps.decided, Reached.{Reached, start}}
+use Rattle.lk_progress.proofs.{Runs.all_or, RunsHalting.{finished_at, kept_served}}
 use Rattle.lk_progress.proofs.halting.Back.{still_back}
 use Rattle.lk_progress.proofs.halting.Budget.{IsQuietAct, act_spins, falls}
 use Rattle.lk_progress.proofs.halting.Calm.{AllCalmer, soothe_all, steps_on, unrest_of}
 use Rattle.lk_progress.proofs.halting.Ends.{cpus_is}
-use Rattle.lk_progress.proofs.halting.Like.{LikeHalting, around_back, circle_like, like_sym, like_then}
-use Rattle.lk_progress.proofs.halting.Potential.{Circles}
+use Rattle.lk_progress.proofs.halting.Like.{LikeHalting, around_back, circle_like, like_sym}
+use Rattle.lk_progress.proofs.{halting.Like.like_then, halting.Potential.Circles}
 use Rattle.lk_progress.proofs.halting.Rest.{rest_spins}
-use Rattle.lk_progress.proofs.HaltingSteps.{decided}
-use Rattle.lk_progress.proofs.Reached.{Reached, start}
-use Rattle.lk_progress.proofs.Runs.{all_or}
-use Rattle.lk_progress.proofs.RunsHalting.{finished_at, kept_served}
+use Rattle.lk_progress.specs.Fair.{after_first, processors, IsRound, IsFair, HaltingFairRunsFinish}
+use Rattle.lk_progress.specs.HaltingPrice.{halting_price, is_nudge}
+use Rattle.lk_names.specs.declared.events.Act.TheVariants as act
 
 module _ (rank : ℕ → ℕ) (ranks : ℕ) (setup : Setup) (schedule : ℕ → Act) (ok : IsLawfulSetup setup) (ordered : IsOrdered rank ranks setup)
     (on : halts setup.mode ≡ true) (fair : IsFair setup schedule) (last : ℕ)

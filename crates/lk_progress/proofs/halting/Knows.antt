@@ -1,31 +1,15 @@
 -- What a waiter of the family that halts processors knows on its way: who finds its state changed before it halts leads
 -- the queue, and a head that tries has set the pending bit.
-use Rattle.std.proofs.Common.{◌≡◌, ◌≢◌, ◌⊎◌, inl, inr, Option, Some, None, Bool, true, false, refl, sym, ap, ◌∙◌, arith}
-use Rattle.std.specs.Prelude.{is_some, slice_get}
-use Rattle.lk_names.specs.History.{LockHistory}
-use Rattle.lk_names.specs.declared.names.Waiter.{Waiter}
-use Rattle.lk_names.specs.declared.names.LockName.{LockName}
-use Rattle.lk_word.specs.declared.spin_word.NodeName.{NodeName}
-use Rattle.lk_rows.specs.declared.parts.Flag.{Flag}
-use Rattle.lk_rows.specs.declared.parts.Frame.{Frame}
-use Rattle.lk_rows.specs.declared.parts.Pc.{Pc}
-use Rattle.lk_rows.specs.declared.parts.Pc.TheVariants.{E4, W5}
-use Rattle.lk_rows.specs.declared.parts.State.{State}
-use Rattle.lk_rows.specs.Moves.{node_of}
-use Rattle.lk_rows.specs.rows.Pv.{is_halted, is_set}
-use Rattle.lk_law.specs.Agree.{halts, node_state}
-use Rattle.lk_law.specs.Phase.{Phase, leads, pends}
-use Rattle.lk_law.specs.Phase.Phase.{Leads, Waits}
-use Rattle.lk_law.specs.Places.{own_in, phase_at, phase_if, phase_on, snapshot}
-use Rattle.lk_law.specs.Pv.{Post, fits}
-use Rattle.lk_law.specs.Pv.Post.{Dozes}
-use Rattle.lk_law.specs.Snapshot.{Snapshot}
-use Rattle.lk_law.specs.SpinWorld.{IsSoundSpinWorld}
-use Rattle.lk_law.specs.World.{World}
-use Rattle.lk_law.proofs.common.Cases.{waiter_cases}
+use Rattle.std.proofs.Common.{◌≡◌, ◌≢◌, ◌⊎◌, inl, inr, Option, Some, None, Bool, true, false, refl}
+use Rattle.std.proofs.Common.{sym, ap, ◌∙◌, arith, is_some, slice_get}
+use Rattle.lk_progress.proofs.Names.{NodeName, LockHistory, LockName, Waiter, node_of, Flag, Frame}
+use Rattle.lk_progress.proofs.Names.{Pc, E4, W5, State, is_halted, is_set, waiter_cases}
+use Rattle.lk_progress.proofs.Names.{phase_on-here, halts, phase_at, phase_if, phase_on, snapshot}
+use Rattle.lk_progress.proofs.Names.{IsSoundSpinWorld, World}
 use Rattle.lk_law.proofs.pv.Laws.{not_pending, para_queue}
+use Rattle.lk_law.specs.{Agree.node_state, Phase.{Phase, leads, pends}, Phase.Phase.{Leads, Waits}}
+use Rattle.lk_law.specs.{Places.own_in, Pv.{Post, fits}, Pv.Post.Dozes, Snapshot.Snapshot}
 use Rattle.lk_waits.proofs.HeadLinked.{front, posted}
-use Rattle.lk_law.proofs.common.Worlds.{phase_on-here}
 
 led_flag : (x : Flag) → leads Waits x ≡ true → is_set x ≡ true
 led_flag x h = grind (arith, h)

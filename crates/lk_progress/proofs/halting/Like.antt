@@ -1,26 +1,14 @@
 -- While heads go around, a machine stays like it was to all others.
-use Rattle.std.proofs.Common.{◌≡◌, ◌≢◌, ◌⊎◌, inl, inr, ℕ, ◌<◌, ◌-◌, Option, Some, None}
-use Rattle.std.proofs.Common.{true, refl, sym, ap, ◌∙◌, subst, length}
-use Rattle.std.proofs.lemmas.Bool.{cases_Bool, cases_eq}
+use Rattle.std.proofs.Common.{◌≡◌, ◌≢◌, ◌⊎◌, inl, inr, ℕ, ◌<◌, ◌-◌, Option, Some, None, true, refl}
+use Rattle.std.proofs.Common.{sym, ap, ◌∙◌, subst, length}
 use Rattle.std.specs.Prelude.{unwrap_or}
-use Rattle.lk_names.specs.History.{LockHistory}
-use Rattle.lk_names.specs.declared.names.Waiter.{Waiter}
-use Rattle.lk_names.specs.declared.names.LockName.{LockName}
-use Rattle.lk_word.specs.declared.spin_word.NodeName.{NodeName}
-use Rattle.lk_rows.specs.declared.parts.Frame.{Frame}
-use Rattle.lk_rows.specs.declared.parts.Pc.{Pc}
-use Rattle.lk_rows.specs.Machine.{Machine, rest_frame, frame_at, top_of, top_frame, depth_at, halted_at, kicked_at, node_at, word_at, rw_at}
-use Rattle.lk_rows.specs.TopRow.{target}
-use Rattle.lk_law.specs.Leads.{course_in}
-use Rattle.lk_law.specs.Sound.{ShowsAll, world}
-use Rattle.lk_law.specs.SoundWorld.{spin_part}
-use Rattle.lk_law.specs.Steps.{led}
-use Rattle.lk_core.proofs.RowKept.{top_live}
-use Rattle.lk_waits.specs.Halting.{goes_around}
-use Rattle.lk_progress.specs.Runs.{GoesAround}
-use Rattle.lk_progress.proofs.halting.Around.{RoundOn, robbed_on}
-use Rattle.lk_progress.proofs.halting.Potential.{Circles}
+use Rattle.lk_progress.proofs.Names.{cases_Bool, cases_eq, NodeName, LockHistory, LockName, Waiter}
+use Rattle.lk_progress.proofs.Names.{Machine, halted_at, kicked_at, rw_at, top_frame, top_of}
+use Rattle.lk_progress.proofs.Names.{word_at, target, Frame, Pc, course_in, ShowsAll, world}
+use Rattle.lk_progress.proofs.Names.{spin_part, led, goes_around, top_live, GoesAround}
+use Rattle.lk_rows.specs.Machine.{rest_frame, frame_at, depth_at, node_at}
 use Rattle.lk_progress.proofs.HaltingSteps.{bool_same, held_same}
+use Rattle.lk_progress.proofs.{halting.Around.{RoundOn, robbed_on}, halting.Potential.Circles}
 
 -- k is m, but for heads that go around in both, their states, and whether their locks are pending
 pub record LikeHalting (m k : Machine) : Type 0 where

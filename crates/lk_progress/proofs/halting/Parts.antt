@@ -1,21 +1,13 @@
 -- What the rows of the paravirtual lock leave as it was, and numbers of heads and of waiters, by flags and bytes.
-use Rattle.std.proofs.Common.{◌≡◌, ◌≢◌, ◌⊎◌, ◌<◌, ◌≤◌, ◌+◌, ℕ, arith, inl, inr, Option, Some, None, Bool, true, false}
-use Rattle.std.proofs.Common.{refl, sym, ap}
-use Rattle.std.specs.Prelude.{if◌then◌else◌, ◌==◌}
-use Rattle.lk_names.specs.Names.{same_lock}
-use Rattle.lk_names.specs.declared.names.LockName.{LockName}
-use Rattle.lk_word.specs.declared.spin_word.Locked.{Locked}
-use Rattle.lk_word.specs.declared.spin_word.Locked.TheVariants.{Free, Held, Slow}
-use Rattle.lk_word.specs.declared.spin_word.NodeName.{NodeName}
-use Rattle.lk_rows.specs.declared.parts.Frame.{Frame}
-use Rattle.lk_rows.specs.declared.parts.State.{State}
-use Rattle.lk_law.specs.Premises.{IsThen}
-use Rattle.lk_law.specs.Snapshot.{same_node}
-use Rattle.lk_law.specs.Steps.{put_halted, stores_word, stores_state}
-use Rattle.lk_law.specs.World.{World}
+use Rattle.std.proofs.Common.{◌≡◌, ◌≢◌, ◌⊎◌, ◌<◌, ◌≤◌, ◌+◌, ℕ, arith, inl, inr, Option, Some, None}
+use Rattle.std.proofs.Common.{Bool, true, false, refl, sym, ap, if◌then◌else◌, ◌==◌}
+use Rattle.lk_progress.proofs.Names.{Locked, Free, Held, Slow, NodeName, same_lock, LockName, Frame}
+use Rattle.lk_progress.proofs.Names.{State, IsThen, put_halted, stores_state, stores_word, World}
+use Rattle.lk_progress.proofs.Names.{KeepsTurns, halting_left, halting_left_at, head_turn}
 use Rattle.lk_law.proofs.common.Puts.{kept_true, same_lock-else, same_node-true}
 use Rattle.lk_law.proofs.common.Sames.{same_lock-true}
-use Rattle.lk_progress.specs.HaltingMeasure.{halting_rows_if, halting_left_at, halting_left, unlike, head_turn, KeepsTurns}
+use Rattle.lk_law.specs.Snapshot.{same_node}
+use Rattle.lk_progress.specs.HaltingMeasure.{halting_rows_if, unlike}
 
 -- what is behind a wait lock on the way to it
 abbrev pub behind : Frame → ℕ

@@ -1,54 +1,32 @@
 -- Where processors halt, a step lowers what is left of the frames, or brings the end of a turn nearer, or is that of a
 -- head which goes around.
-use Rattle.std.proofs.Common.{◌≡◌, ◌≢◌, ◌⊎◌, inl, inr, ℕ, ◌<◌, ◌≤◌, ◌+◌, ◌-◌, ◌*◌, Option, Some, None, Bool}
-use Rattle.std.proofs.Common.{true, false, refl, sym, ap, ◌∙◌, subst, arith, length}
-use Rattle.std.proofs.lemmas.Option.{slice_get_within}
-use Rattle.std.specs.Prelude.{if◌then◌else◌}
-use Rattle.lk_names.specs.Names.{same_waiter}
-use Rattle.lk_names.specs.History.{LockHistory}
-use Rattle.lk_names.specs.declared.names.Waiter.{Waiter}
-use Rattle.lk_names.specs.declared.names.LockName.{LockName}
-use Rattle.lk_names.specs.declared.events.Act.TheVariants as act
-use Rattle.lk_word.specs.declared.spin_word.NodeName.{NodeName}
-use Rattle.lk_word.specs.declared.spin_word.Fields.{Fields}
-use Rattle.lk_rows.specs.declared.setup.Setup.{Setup}
-use Rattle.lk_rows.specs.declared.parts.Frame.{Frame}
-use Rattle.lk_rows.specs.declared.parts.Pc.{Pc}
-use Rattle.lk_rows.specs.Machine.{Machine, HasTop, frame_at, top_of, top_frame, preempted_at, halted_at, kicked_at, handlers_at, depth_at, node_at, word_at}
-use Rattle.lk_rows.specs.Moves.{program_of, started}
-use Rattle.lk_rows.specs.Programs.{program_at}
-use Rattle.lk_rows.specs.Row.{Lead, Goes, Enters, Granted, Freed, Missed, Done, TakesWait, Leaves, Yields, moved, gone}
-use Rattle.lk_rows.specs.TopRow.{row, row_at, row_on, target}
-use Rattle.lk_rows.specs.Acts.{next, idle, stands_halting, step_halted}
-use Rattle.lk_law.specs.Agree.{halts}
-use Rattle.lk_law.specs.Leads.{course_in, stored_in}
-use Rattle.lk_law.specs.Sound.{ShowsAll, world, Works}
-use Rattle.lk_law.specs.SoundWorld.{spin_part}
-use Rattle.lk_law.specs.Steps.{led}
-use Rattle.lk_law.specs.World.{World}
-use Rattle.lk_law.proofs.common.Cases.{waiter_cases}
-use Rattle.lk_law.proofs.common.Puts.{if-true, same_waiter-else}
-use Rattle.lk_law.proofs.common.Sames.{same_waiter-self}
-use Rattle.lk_law.proofs.running.Leads.{row_is_done}
-use Rattle.lk_core.proofs.ActKept.{act_kept}
-use Rattle.lk_core.proofs.RowKept.{top_live}
-use Rattle.lk_core.proofs.Same.{has_top_same, same_set_top}
-use Rattle.lk_core.proofs.Setups.{setup_kept}
-use Rattle.lk_waits.specs.Waits as waits
-use Rattle.lk_waits.proofs.HaltingStands.{still_looks_at}
-use Rattle.lk_progress.specs.HaltingMeasure.{halting_left, halting_turn_of, KeepsTurns, HaltingTurnGoesOn, HaltingTurnStays}
-use Rattle.lk_progress.specs.HaltingPrice.{halting_weight, halting_cpu_weight, halting_cpu_turns, halting_debt, halting_turns, kick_turns, SpinsAreFew}
-use Rattle.lk_progress.specs.Measure.{goes}
-use Rattle.lk_progress.specs.Potential.{sum_below}
-use Rattle.lk_progress.specs.Runs.{GoesAround}
-use Rattle.lk_progress.proofs.halting.Bound.{keeps_then, turn_most, turn_kept}
-use Rattle.lk_progress.proofs.halting.Spins.{halting_begin_is_short, row_keeps_spins}
-use Rattle.lk_progress.proofs.HaltingSteps.{polled}
-use Rattle.lk_progress.proofs.halting.Descends.{halting_row_descends}
-use Rattle.lk_progress.proofs.Moves.{Moves, Settles, Turned}
+use Rattle.std.proofs.Common.{◌≡◌, ◌≢◌, ◌⊎◌, inl, inr, ℕ, ◌<◌, ◌≤◌, ◌+◌, ◌-◌, ◌*◌, Option, Some}
+use Rattle.std.proofs.Common.{None, Bool, true, false, refl, sym, ap, ◌∙◌, subst, arith, length}
+use Rattle.std.proofs.Common.{if◌then◌else◌}
+use Rattle.lk_progress.proofs.Names.{slice_get_within, Fields, NodeName, LockHistory, same_waiter}
+use Rattle.lk_progress.proofs.Names.{LockName, Waiter, idle, next, stands_halting, step_halted}
+use Rattle.lk_progress.proofs.Names.{HasTop, Machine, halted_at, handlers_at, kicked_at, top_frame}
+use Rattle.lk_progress.proofs.Names.{top_of, word_at, program_of, started, program_at, Done, Enters}
+use Rattle.lk_progress.proofs.Names.{Freed, Goes, Granted, Lead, Leaves, Missed, TakesWait, Yields}
+use Rattle.lk_progress.proofs.Names.{gone, moved, row, row_at, row_on, target, Frame, Pc, Setup}
+use Rattle.lk_progress.proofs.Names.{waiter_cases, if-true, same_waiter-else, same_waiter-self}
+use Rattle.lk_progress.proofs.Names.{row_is_done, halts, course_in, stored_in, ShowsAll, Works}
+use Rattle.lk_progress.proofs.Names.{world, spin_part, led, World, still_looks_at, act_kept}
+use Rattle.lk_progress.proofs.Names.{top_live, has_top_same, same_set_top, setup_kept}
+use Rattle.lk_progress.proofs.Names.{HaltingTurnStays, KeepsTurns, halting_left, halting_turn_of}
+use Rattle.lk_progress.proofs.Names.{SpinsAreFew, halting_cpu_weight, halting_debt, halting_turns}
+use Rattle.lk_progress.proofs.Names.{halting_weight, kick_turns, goes, sum_below, GoesAround}
+use Rattle.lk_rows.specs.Machine.{frame_at, preempted_at, depth_at, node_at}
+use Rattle.lk_progress.proofs.{HaltingSteps.polled, Moves.{Moves, Settles, Turned}}
 use Rattle.lk_progress.proofs.Potential.{moved_goes, led_at, ops_left}
 use Rattle.lk_progress.proofs.Rows.{Put, row_moves, row_made}
 use Rattle.lk_progress.proofs.Sums.{sum_fall, sum_most_of, sum_same, total_same, total_less}
+use Rattle.lk_progress.proofs.halting.Bound.{keeps_then, turn_most, turn_kept}
+use Rattle.lk_progress.proofs.halting.Descends.{halting_row_descends}
+use Rattle.lk_progress.proofs.halting.Spins.{halting_begin_is_short, row_keeps_spins}
+use Rattle.lk_progress.specs.{HaltingMeasure.HaltingTurnGoesOn, HaltingPrice.halting_cpu_turns}
+use Rattle.lk_names.specs.declared.events.Act.TheVariants as act
+use Rattle.lk_waits.specs.Waits as waits
 
 -- what is left of all frames
 abbrev pub frames_left : Machine → ℕ

@@ -1,26 +1,16 @@
 -- Where processors halt: at rest nobody is in a turn, and so every run from rest ends.
-use Rattle.std.proofs.Common.{◌≡◌, ℕ, zero, suc, ◌+◌, ◌*◌, ◌≤◌, Option, Some, None, refl, sym, ap, ◌∙◌, subst, arith, [], length, slice_get}
-use Rattle.lk_names.specs.declared.names.Mode.{Mode}
-use Rattle.lk_names.specs.declared.names.Mode.TheVariants.{Virt, Native, Cna, Pv}
-use Rattle.lk_names.specs.declared.names.Waiter.{Waiter}
-use Rattle.lk_rows.specs.declared.parts.Frame.{Frame}
-use Rattle.lk_rows.specs.declared.setup.Op.{Op}
-use Rattle.lk_rows.specs.declared.setup.Setup.{Setup}
-use Rattle.lk_rows.specs.declared.setup.Verb.{Verb}
-use Rattle.lk_rows.specs.declared.setup.Verb.TheVariants.{Lock, Try, Unlock, Read, TryRead, RUnlock, Write, TryWrite, WUnlock}
-use Rattle.lk_rows.specs.Machine.{Machine, frame_at, kicked_at}
-use Rattle.lk_rows.specs.Moves.{first_place}
-use Rattle.lk_rows.specs.Programs.{IsLawfulSetup, program_at}
-use Rattle.lk_rows.specs.Run.{at_rest, first_frame}
-use Rattle.lk_law.specs.Sound.{world}
-use Rattle.lk_law.specs.World.{World}
-use Rattle.lk_core.proofs.Rest.{frames}
-use Rattle.lk_core.proofs.Runs.{rest_shows}
-use Rattle.lk_progress.specs.HaltingMeasure.{halting_turn_at, halting_turn_of}
-use Rattle.lk_progress.specs.HaltingPrice.{kick_turns, halting_debt, halting_turns, halting_budget, halting_cost, SpinsAreFew, HaltingRunsEnd}
-use Rattle.lk_progress.specs.Potential.{sum_below}
-use Rattle.lk_progress.proofs.halting.Budget.{halting_runs_are_short}
-use Rattle.lk_progress.proofs.Sums.{sum_same}
+use Rattle.std.proofs.Common.{◌≡◌, ℕ, zero, suc, ◌+◌, ◌*◌, ◌≤◌, Option, Some, None, refl, sym, ap}
+use Rattle.std.proofs.Common.{◌∙◌, subst, arith, [], length, slice_get}
+use Rattle.lk_progress.proofs.Names.{Mode, Cna, Native, Pv, Virt, Waiter, Machine, kicked_at}
+use Rattle.lk_progress.proofs.Names.{first_place, IsLawfulSetup, program_at, at_rest, first_frame}
+use Rattle.lk_progress.proofs.Names.{Frame, Op, Setup, Verb, Lock, RUnlock, Read, Try, TryRead}
+use Rattle.lk_progress.proofs.Names.{TryWrite, Unlock, WUnlock, Write, world, World, frames}
+use Rattle.lk_progress.proofs.Names.{rest_shows, halting_turn_at, halting_turn_of, SpinsAreFew}
+use Rattle.lk_progress.proofs.Names.{halting_budget, halting_debt, halting_turns, kick_turns}
+use Rattle.lk_progress.proofs.Names.{sum_below}
+use Rattle.lk_rows.specs.Machine.{frame_at}
+use Rattle.lk_progress.proofs.{Sums.sum_same, halting.Budget.halting_runs_are_short}
+use Rattle.lk_progress.specs.HaltingPrice.{halting_cost, HaltingRunsEnd}
 
 -- no operation begins in a turn
 begins_at : (m : World) (u : Waiter) (f : Frame) (mode : Mode) (v : Verb) → halting_turn_at m u f (first_place mode v) ≡ 0

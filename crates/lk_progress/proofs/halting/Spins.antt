@@ -1,35 +1,19 @@
 -- No row leaves more turns of a spin than the spin bound says, and operations begin with few rows.
 use Rattle.std.proofs.Common.{◌≡◌, ◌<◌, ◌≤◌, ◌-◌, arith, Option, Some, None, Bool, true, false}
-use Rattle.std.specs.Prelude.{if◌then◌else◌, ◌&&◌, ◌==◌}
-use Rattle.lk_names.specs.declared.names.Mode.{Mode}
-use Rattle.lk_names.specs.declared.names.Mode.TheVariants.{Virt, Native, Cna, Pv}
-use Rattle.lk_names.specs.declared.names.Waiter.{Waiter}
-use Rattle.lk_word.specs.declared.spin_word.NodeName.{NodeName}
-use Rattle.lk_word.specs.declared.spin_word.Fields.{Fields}
-use Rattle.lk_word.specs.declared.rw_word.RwFields.{RwFields}
-use Rattle.lk_rows.specs.declared.parts.Frame.{Frame}
-use Rattle.lk_rows.specs.declared.parts.Pc.{Pc}
-use Rattle.lk_rows.specs.declared.parts.Pc.TheVariants.{F1, T1, T2, G1, G4, G5, H1, H2, W1, W2, W3, W4, W5, W6, W7}
-use Rattle.lk_rows.specs.declared.parts.Pc.TheVariants.{E1, E2, E3, E4, E5, E6, E7, E8, E9, E10, E11, E12, E13, E14, E15}
-use Rattle.lk_rows.specs.declared.parts.Pc.TheVariants.{K1, K2, K3, U2, U3, U4, U5, R1, R2, R3, R4, R5, Wr1, Wr2, Wr3, Wr4}
-use Rattle.lk_rows.specs.declared.parts.Pc.TheVariants.{Wr5, Wr6, Y1, Y2, Y3, Y4, Y5, Z1, Z2}
-use Rattle.lk_rows.specs.declared.setup.Verb.{Verb}
-use Rattle.lk_rows.specs.declared.setup.Verb.TheVariants.{Lock, Try, Unlock, Read, TryRead, RUnlock, Write, TryWrite, WUnlock}
-use Rattle.lk_rows.specs.Moves.{node_of, started}
-use Rattle.lk_rows.specs.Row.{Effect, Lead}
-use Rattle.lk_rows.specs.rows.Cna.{is_held, is_last}
-use Rattle.lk_rows.specs.rows.Pv.{is_halted, is_running, is_set, pv_after_next}
-use Rattle.lk_rows.specs.rows.Queue.{after_arrival, after_link}
-use Rattle.lk_rows.specs.rows.Rw.{frees_wait, is_cleared, is_empty, is_open}
-use Rattle.lk_rows.specs.rows.Spin.{is_free, is_unlocked}
-use Rattle.lk_rows.specs.TopRow.{target}
-use Rattle.lk_law.specs.Families.{chooses, stays_awake}
-use Rattle.lk_law.specs.Leads.{course_in}
-use Rattle.lk_law.specs.Steps.{led}
-use Rattle.lk_law.specs.World.{World}
-use Rattle.lk_law.proofs.common.Puts.{not-true}
+use Rattle.std.proofs.Common.{if◌then◌else◌, ◌&&◌, ◌==◌}
+use Rattle.lk_progress.proofs.Names.{RwFields, Fields, NodeName, Mode, Cna, Native, Pv, Virt}
+use Rattle.lk_progress.proofs.Names.{Waiter, node_of, Effect, Lead, target, Frame, Pc, E1}
+use Rattle.lk_progress.proofs.Names.{E2, E3, E4, E5, E6, E7, E8, E9, E10, E11, E12, E13, E14, E15}
+use Rattle.lk_progress.proofs.Names.{F1, G1, G4, G5, H1, H2, K1, K2, K3, R1, R2, R3, R4, R5, T1, T2}
+use Rattle.lk_progress.proofs.Names.{U2, U3, U4, U5, W1, W2, W3, W4, W5, W6, W7, Wr1, Wr2, Wr3, Wr4}
+use Rattle.lk_progress.proofs.Names.{Wr5, Wr6, Y1, Y2, Y3, Y4, Y5, Z1, Z2, Verb, Lock, RUnlock}
+use Rattle.lk_progress.proofs.Names.{Read, Try, TryRead, TryWrite, Unlock, WUnlock, Write, is_held}
+use Rattle.lk_progress.proofs.Names.{is_last, is_halted, is_running, is_set, pv_after_next}
+use Rattle.lk_progress.proofs.Names.{after_arrival, after_link, frees_wait, is_cleared, is_empty}
+use Rattle.lk_progress.proofs.Names.{is_open, is_free, is_unlocked, not-true, chooses, stays_awake}
+use Rattle.lk_progress.proofs.Names.{course_in, led, World, halting_left}
 use Rattle.lk_law.proofs.pv.Laws.{halts_flat}
-use Rattle.lk_progress.specs.HaltingMeasure.{halting_left, RowKeepsSpins, HaltingBeginIsShort}
+use Rattle.lk_progress.specs.HaltingMeasure.{RowKeepsSpins, HaltingBeginIsShort}
 
 module _ (m : World) (w : Waiter) (f : Frame) (few : f.left ≤ m.turns) where
   abbrev x : Fields

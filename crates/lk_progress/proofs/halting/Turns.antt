@@ -1,49 +1,34 @@
 -- Where processors halt, each row leaves its frame as it was, or leaves it fewer rows, or leads it on in its turn, or is
 -- that of a head which goes around.
-use Rattle.std.proofs.Common.{◌≡◌, ◌⊎◌, ◌<◌, ◌+◌, ◌-◌, ◌*◌, ℕ, arith, inl, inr, Option, Some, None, Bool, true, false}
-use Rattle.std.proofs.Common.{refl, sym, ap, ◌∙◌, [], ◌∷◌}
-use Rattle.std.specs.Prelude.{if◌then◌else◌, is_some, ◌&&◌, not, ◌==◌}
-use Rattle.lk_names.specs.History.{LockHistory}
-use Rattle.lk_names.specs.declared.names.LockName.{LockName}
-use Rattle.lk_names.specs.declared.names.Mode.{Mode}
-use Rattle.lk_names.specs.declared.names.Mode.TheVariants.{Virt, Native, Cna, Pv}
-use Rattle.lk_names.specs.declared.names.Waiter.{Waiter}
-use Rattle.lk_word.specs.declared.rw_word.RwFields.{RwFields}
-use Rattle.lk_word.specs.declared.spin_word.Fields.{Fields}
-use Rattle.lk_word.specs.declared.spin_word.Locked.{Locked}
-use Rattle.lk_word.specs.declared.spin_word.Locked.TheVariants.{Free, Held, Slow}
-use Rattle.lk_word.specs.declared.spin_word.NodeName.{NodeName}
-use Rattle.lk_rows.specs.declared.parts.Frame.{Frame}
-use Rattle.lk_rows.specs.declared.parts.Pc.{Pc}
-use Rattle.lk_rows.specs.declared.parts.Pc.TheVariants.{F1, T1, T2, G1, G4, G5, H1, H2, W1, W2, W3, W4, W5, W6, W7}
-use Rattle.lk_rows.specs.declared.parts.Pc.TheVariants.{E1, E2, E3, E4, E5, E6, E7, E8, E9, E10, E11, E12, E13, E14, E15}
-use Rattle.lk_rows.specs.declared.parts.Pc.TheVariants.{K1, K2, K3, U2, U3, U4, U5, R1, R2, R3, R4, R5, Wr1, Wr2, Wr3, Wr4}
-use Rattle.lk_rows.specs.declared.parts.Pc.TheVariants.{Wr5, Wr6, Y1, Y2, Y3, Y4, Y5, Z1, Z2}
-use Rattle.lk_rows.specs.declared.parts.State.{State}
-use Rattle.lk_rows.specs.declared.parts.State.TheVariants as state
-use Rattle.lk_rows.specs.Acts.{stands_halting}
-use Rattle.lk_rows.specs.Moves.{node_of}
-use Rattle.lk_rows.specs.Row.{Effect, Lead, Goes, Leaves, Granted, Freed, Missed, Done, Left, Tailed, gone, entered, looks, learns}
-use Rattle.lk_rows.specs.rows.Cna.{is_held, is_last}
-use Rattle.lk_rows.specs.rows.Pv.{after_given_up, after_glance, is_halted, is_running, is_set, is_slow_byte, peer_again, pv_after_next, try_again}
-use Rattle.lk_rows.specs.rows.Queue.{after_arrival, after_entry, after_link, own_node}
-use Rattle.lk_rows.specs.rows.Rw.{frees_wait, is_cleared, is_empty, is_open}
-use Rattle.lk_rows.specs.rows.Spin.{after_fast, is_free, is_unlocked}
-use Rattle.lk_rows.specs.TopRow.{target}
-use Rattle.lk_law.specs.Agree.{halts}
-use Rattle.lk_law.specs.Families.{chooses, stays_awake}
-use Rattle.lk_law.specs.Leads.{course_in, stored_in}
-use Rattle.lk_law.specs.Premises.{IsThen}
-use Rattle.lk_law.specs.SpinWorld.{IsSoundSpinWorld}
-use Rattle.lk_law.specs.Steps.{led, stores_word, stores_rw, stores_state, stores_flag, stores_next}
-use Rattle.lk_law.specs.World.{World}
-use Rattle.lk_waits.specs.Halting.{goes_around, IsRobbed}
-use Rattle.lk_progress.specs.Measure.{goes}
-use Rattle.lk_progress.specs.HaltingMeasure.{halting_rows, halting_rows_if, is_on_the_way, rows_to_hash, halting_left_at, halting_left, is_flagged, head_turn}
-use Rattle.lk_progress.specs.HaltingMeasure.{halting_turn_at, halting_turn_of, KeepsTurns}
-use Rattle.lk_progress.proofs.halting.Parts.{behind, none_left, had_lt, head_less, flag_less, unlike_self, unlike_or, unlike_few, four_most, two_less, off_hash}
-use Rattle.lk_progress.proofs.halting.Parts.{Calm, keeps_self, calm_self, calm_state, calm_pending, keeps_halted}
+use Rattle.std.proofs.Common.{◌≡◌, ◌⊎◌, ◌<◌, ◌+◌, ◌-◌, ◌*◌, ℕ, arith, inl, inr, Option, Some, None}
+use Rattle.std.proofs.Common.{Bool, true, false, refl, sym, ap, ◌∙◌, [], ◌∷◌, if◌then◌else◌}
+use Rattle.std.proofs.Common.{is_some, ◌&&◌, not, ◌==◌}
+use Rattle.lk_progress.proofs.Names.{RwFields, Fields, Locked, Free, Held, Slow, NodeName}
+use Rattle.lk_progress.proofs.Names.{LockHistory, LockName, Mode, Cna, Native, Pv, Virt, Waiter}
+use Rattle.lk_progress.proofs.Names.{stands_halting, node_of, Done, Effect, Freed, Goes}
+use Rattle.lk_progress.proofs.Names.{Lead, Missed, gone, target, Frame, Pc, E1, E2}
+use Rattle.lk_progress.proofs.Names.{E3, E4, E5, E6, E7, E8, E9, E10, E11, E12, E13, E14, E15, F1}
+use Rattle.lk_progress.proofs.Names.{G1, G4, G5, H1, H2, K1, K2, K3, R1, R2, R3, R4, R5, T1, T2, U2}
+use Rattle.lk_progress.proofs.Names.{U3, U4, U5, W1, W2, W3, W4, W5, W6, W7, Wr1, Wr2, Wr3, Wr4}
+use Rattle.lk_progress.proofs.Names.{Wr5, Wr6, Y1, Y2, Y3, Y4, Y5, Z1, Z2, State, is_held, is_last}
+use Rattle.lk_progress.proofs.Names.{after_given_up, is_halted, is_running, is_set}
+use Rattle.lk_progress.proofs.Names.{is_slow_byte, pv_after_next, after_arrival, after_entry}
+use Rattle.lk_progress.proofs.Names.{after_link, own_node, frees_wait, is_cleared, is_empty}
+use Rattle.lk_progress.proofs.Names.{is_open, after_fast, is_free, is_unlocked, halts, chooses}
+use Rattle.lk_progress.proofs.Names.{stays_awake, course_in, stored_in, IsThen, IsSoundSpinWorld}
+use Rattle.lk_progress.proofs.Names.{led, stores_next, stores_state, stores_word, World, IsRobbed}
+use Rattle.lk_progress.proofs.Names.{goes_around, KeepsTurns, halting_left, halting_left_at}
+use Rattle.lk_progress.proofs.Names.{halting_turn_at, halting_turn_of, head_turn, goes}
+use Rattle.lk_rows.specs.{Row.{Left, Tailed, entered, learns}, rows.Pv.{peer_again, try_again}}
+use Rattle.lk_law.specs.Steps.{stores_rw, stores_flag}
 use Rattle.lk_progress.proofs.halting.Knows.{tries_pending, doubts_led}
+use Rattle.lk_progress.proofs.halting.Parts.{behind, none_left, had_lt, head_less, flag_less}
+use Rattle.lk_progress.proofs.halting.Parts.{unlike_self, unlike_or, unlike_few, four_most}
+use Rattle.lk_progress.proofs.halting.Parts.{two_less, off_hash, Calm, keeps_self, calm_self}
+use Rattle.lk_progress.proofs.halting.Parts.{calm_state, calm_pending, keeps_halted}
+use Rattle.lk_progress.specs.HaltingMeasure.{halting_rows, halting_rows_if, is_on_the_way}
+use Rattle.lk_progress.specs.HaltingMeasure.{rows_to_hash, is_flagged}
+use Rattle.lk_rows.specs.declared.parts.State.TheVariants as state
 
 module _ (m : World) (hs : LockName → LockHistory) (ok : IsSoundSpinWorld m hs) (halting : halts m.mode ≡ true) (w : Waiter)
     (f : Frame) (live : m.frame w ≡ Some f) (inner : f.lock.wait ≡ true → IsThen f.then) (up : m.halted w.cpu ≡ false) where

@@ -1,5 +1,4 @@
-use Rattle.lk_progress.proofs.Watching.{takes_in_turn}
-use Rattle.lk_progress.proofs.Watching.{nobody_watches_anew}
+use Rattle.lk_progress.proofs.Watching.{takes_in_turn, nobody_watches_anew}
 use Rattle.lk_progress.proofs.laws.takes_are_in_turn.Goals as goal
 
 pub returns : goal.returns
