@@ -1,19 +1,11 @@
 -- Whether a swap fails on a word is seen by the low bits of its number.
-use Rattle.std.proofs.Common.{◌≡◌, ◌≢◌, ◌⊎◌, ℕ, ◌+◌, ◌*◌, ◌%◌, Option, Some, None, Bool, true, false, refl, arith}
-use Rattle.std.specs.Prelude.{if◌then◌else◌}
-use Rattle.lk_word.specs.declared.spin_word.NodeName.{NodeName}
-use Rattle.lk_word.specs.declared.spin_word.Fields.{Fields}
-use Rattle.lk_word.specs.declared.spin_word.Locked.{Locked}
-use Rattle.lk_word.specs.declared.spin_word.Locked.TheVariants.{Free, Held, Slow}
-use Rattle.lk_word.specs.declared.spin_word.Layout.{Layout}
-use Rattle.lk_word.specs.declared.spin_word.Layout.TheVariants.{Narrow, Wide}
+use Rattle.std.proofs.Common.{◌≡◌, ◌≢◌, ◌⊎◌, ℕ, ◌+◌, ◌*◌, ◌%◌, Option, Some, None, Bool, true}
+use Rattle.std.proofs.Common.{false, refl, arith, if◌then◌else◌}
+use Rattle.lk_pvdomain.proofs.Names.{Me, Fields, Layout, Locked, Free, Held, Slow, NodeName, Verb}
+use Rattle.lk_pvdomain.proofs.Names.{lock_name, MadeBy, View, TriedBy, head_fails, release_fails}
+use Rattle.lk_pvdomain.proofs.Names.{steal_fails}
 use Rattle.lk_word.specs.SpinWord.{packed, locked_number, tail_number}
-use Rattle.lk_rows.specs.declared.setup.Verb.{Verb}
-use Rattle.atomic_table.specs.Table.{Me}
-use Rattle.lk_domain.specs.Calls.{lock_name}
-use Rattle.lk_domain.specs.Plays.{MadeBy}
-use Rattle.lk_domain.specs.declared.view.View.{View}
-use Rattle.lk_pvdomain.specs.PvPlays.{TriedBy, release_fails, head_fails, steal_fails}
+use Rattle.lk_word.specs.declared.spin_word.Layout.TheVariants.{Narrow, Wide}
 
 -- what a tail counts for leaves the low nine bits as they are
 pub tail_512 : (layout : Layout) (t : Option NodeName) → (n : ℕ) × (tail_number layout t ≡ 512 * n)

@@ -1,24 +1,14 @@
 -- The places of the hash are a map: filled, where the lock has no entry, and emptied.
-use Rattle.std.proofs.Common.{◌≡◌, ◌≢◌, inl, inr, ℕ, ◌<◌, ◌≤◌, List, set}
-use Rattle.std.proofs.Common.{Some, None, Bool, false, sym, ap, ◌∙◌, subst, arith}
-use Rattle.std.proofs.Common.{eqb, eq-eqb, ne_eqb, refl, Option}
-use Rattle.std.proofs.lemmas.Bool.{cases_eq}
-use Rattle.std.specs.Prelude.{if◌then◌else◌}
-use Rattle.lk_names.specs.Names.{same_lock}
-use Rattle.lk_names.specs.declared.names.LockName.{LockName}
-use Rattle.lk_word.specs.declared.spin_word.NodeName.{NodeName}
-use Rattle.lk_law.specs.World.{World}
-use Rattle.lk_law.proofs.common.Cases.{lock_cases}
-use Rattle.lk_law.proofs.common.Puts.{if-true, if-false, same_lock-else}
+use Rattle.std.proofs.Common.{◌≡◌, ◌≢◌, inl, inr, ℕ, ◌<◌, ◌≤◌, List, set, Some, None, Bool, false}
+use Rattle.std.proofs.Common.{sym, ap, ◌∙◌, subst, arith, eqb, eq-eqb, ne_eqb, refl, Option}
+use Rattle.std.proofs.Common.{if◌then◌else◌, ◌⊎◌}
+use Rattle.lk_pvdomain.proofs.Names.{cases_eq, NodeName, same_lock, LockName, if-false, World}
+use Rattle.lk_pvdomain.proofs.Names.{lock_name, locks_of, IsNode, OfHash, hash_at, pair_number}
+use Rattle.lk_pvdomain.proofs.Names.{places_of, Plan, MOST_LOCKS}
+use Rattle.lk_law.proofs.{common.Cases.lock_cases, common.Puts.{if-true, same_lock-else}}
 use Rattle.lk_law.proofs.common.Sames.{same_lock-self}
-use Rattle.lk_domain.specs.Calls.{lock_name}
-use Rattle.lk_domain.specs.Plans.{locks_of}
-use Rattle.lk_domain.specs.Runs.{IsHashed, IsStored}
 use Rattle.lk_domain.proofs.words.Written.{written, same_numbers}
-use Rattle.lk_domain.specs.Words.{Place, OfHash, IsPlace, with_mark, number_of, hash_at, pair_number, places_of, IsNode}
-use Rattle.lk_domain.specs.declared.plan.Plan.{Plan}
-use Rattle.lk_domain.specs.declared.plan.TheConstants.{MOST_LOCKS}
-use Rattle.std.proofs.Common.{◌⊎◌}
+use Rattle.lk_domain.specs.{Runs.{IsHashed, IsStored}, Words.{Place, IsPlace, with_mark, number_of}}
 use Rattle.lk_pvdomain.specs.PvPlays.{IsOther}
 
 -- a pair is known by its number

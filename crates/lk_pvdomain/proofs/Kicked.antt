@@ -1,33 +1,19 @@
 -- A front that has halted on a free lock is kicked; and who seeks an entry finds it.
-use Rattle.std.proofs.Common.{◌≡◌, ◌≤◌, ℕ, List, [], ◌∷◌, length, eqb, Bool, inl, inr, Option, Some, None, true, false}
-use Rattle.std.proofs.Common.{refl, ap, ◌∙◌, arith, slice_get, get_or}
-use Rattle.std.specs.Prelude.{if◌then◌else◌, is_some}
-use mathlib.Core.Option.{some}
-use lib.ListN.{get_elem?}
+use Rattle.std.proofs.Common.{◌≡◌, ◌≤◌, ℕ, List, [], ◌∷◌, length, eqb, Bool, inl, inr, Option, Some}
+use Rattle.std.proofs.Common.{None, true, false, refl, ap, ◌∙◌, arith, slice_get, get_or}
+use Rattle.std.proofs.Common.{if◌then◌else◌, is_some}
+use Rattle.lk_pvdomain.proofs.Names.{get_elem?, some, NodeName, Waiter, node_of, Frame, U3, halts}
+use Rattle.lk_pvdomain.proofs.Names.{top_live, Running, frame_in, Slot, Runs, seeks_entry, waiter}
+use Rattle.lk_pvdomain.proofs.Names.{IsNode, OfKick, Plan, View}
 use Rattle.atomic_table.specs.Table.{State}
 use Rattle.lk_names.specs.History.{no_history}
-use Rattle.lk_names.specs.declared.names.Waiter.{Waiter}
-use Rattle.lk_word.specs.declared.spin_word.NodeName.{NodeName}
-use Rattle.lk_rows.specs.declared.parts.Frame.{Frame}
-use Rattle.lk_rows.specs.declared.parts.Pc.TheVariants.{U3}
-use Rattle.lk_rows.specs.Moves.{node_of}
-use Rattle.lk_law.specs.Agree.{halts}
-use Rattle.lk_law.specs.Kicked.{Owes}
-use Rattle.lk_law.specs.SoundWorld.{spin_part}
 use Rattle.lk_law.proofs.common.Knows.{row_knows, entry_is_used}
 use Rattle.lk_law.proofs.pv.HaltsShown.{sleeping_front_is_kicked}
-use Rattle.lk_domain.specs.Calls.{Running, frame_in}
-use Rattle.lk_domain.specs.Keeps.{Slot}
-use Rattle.lk_domain.specs.Runs.{Runs, waiter, seeks_entry}
-use Rattle.lk_domain.specs.Words.{OfKick, mark_number, IsNode}
-use Rattle.lk_domain.specs.declared.plan.Plan.{Plan}
-use Rattle.lk_domain.specs.declared.view.View.{View}
-use Rattle.lk_domain.proofs.queue.OnNodes.{top_live}
-use Rattle.lk_domain.proofs.seats.Owners.{framed}
-use Rattle.lk_domain.proofs.seats.Totals.{drawn}
-use Rattle.lk_domain.proofs.words.OnWords.{seated}
-use Rattle.lk_pvdomain.specs.Laws.{FrontIsKicked, EntryIsFound, WillKick}
+use Rattle.lk_law.specs.{Kicked.Owes, SoundWorld.spin_part}
+use Rattle.lk_domain.proofs.{seats.Owners.framed, seats.Totals.drawn, words.OnWords.seated}
+use Rattle.lk_domain.specs.Words.{mark_number}
 use Rattle.lk_pvdomain.proofs.HashMaps.{sought_is_there}
+use Rattle.lk_pvdomain.specs.Laws.{FrontIsKicked, EntryIsFound, WillKick}
 
 frame_is : (b : Bool) (x f : Frame) → (if b then Some x else None) ≡ Some f → x ≡ f
 frame_is true x f e = cc e

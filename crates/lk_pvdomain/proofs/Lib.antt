@@ -1,4 +1,5 @@
 -- What the steps of a paravirtual domain rest on.
+pub mod Names
 pub mod Unmarked
 pub mod OnStates
 pub mod OnMarks

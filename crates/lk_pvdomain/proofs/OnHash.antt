@@ -1,59 +1,27 @@
 -- The steps that put a lock into the hash.
-use Rattle.std.proofs.Common.{◌≡◌, ◌≢◌, inl, inr, ℕ, ◌<◌, List, set, get_or}
-use Rattle.std.proofs.Common.{Option, Some, None, Bool, true, false, eqb, eq-eqb, ne_eqb, refl, sym, ap, ◌∙◌, subst, arith}
-use Rattle.std.proofs.lemmas.Bool.{cases_eq}
-use Rattle.std.specs.Prelude.{if◌then◌else◌, is_some}
-use prog.Atomic.{either}
-use mathlib.Core.Logic.{dite}
-use native.Mathlib.Decide.{ℕ_discrete}
-use mathlib.Core.Option.{Option as Maybe, some}
-use lib.ListN.{get_elem?}
-use Rattle.atomic_table.specs.Table.{State as Table, Me, keeps, Allows}
-use Rattle.lk_names.specs.Names.{same_lock}
-use Rattle.lk_names.specs.History.{LockHistory}
-use Rattle.lk_names.specs.declared.names.Waiter.{Waiter}
-use Rattle.lk_names.specs.declared.names.LockName.{LockName}
-use Rattle.lk_word.specs.declared.spin_word.NodeName.{NodeName}
-use Rattle.lk_rows.specs.declared.parts.Node.{Node}
-use Rattle.lk_rows.specs.declared.parts.Frame.{Frame}
-use Rattle.lk_rows.specs.declared.parts.Pc.{Pc}
-use Rattle.lk_rows.specs.declared.parts.Pc.TheVariants.{G1, E6, E9, K3, U3}
-use Rattle.lk_rows.specs.declared.setup.Verb.{Verb}
-use Rattle.lk_rows.specs.Moves.{node_of}
-use Rattle.lk_rows.specs.TopRow.{target}
-use Rattle.lk_law.specs.Agree.{halts}
-use Rattle.lk_law.specs.Leads.{Named, met_in, stored_in, enters}
-use Rattle.lk_law.specs.SpinWorld.{IsSoundSpinWorld}
-use Rattle.lk_law.specs.Steps.{put_entry}
-use Rattle.lk_law.specs.World.{World}
+use Rattle.std.proofs.Common.{◌≡◌, ◌≢◌, inl, inr, ℕ, ◌<◌, List, set, get_or, Option, Some, None}
+use Rattle.std.proofs.Common.{Bool, true, false, eqb, eq-eqb, ne_eqb, refl, sym, ap, ◌∙◌, subst}
+use Rattle.std.proofs.Common.{arith, if◌then◌else◌, is_some}
+use Rattle.lk_pvdomain.proofs.Names.{cases_eq, Allows, Me, keeps, get_elem?, dite, some, ℕ_discrete}
+use Rattle.lk_pvdomain.proofs.Names.{either, NodeName, LockHistory, same_lock, LockName, Waiter}
+use Rattle.lk_pvdomain.proofs.Names.{node_of, target, Frame, Node, Pc, E9, G1, U3, Verb}
+use Rattle.lk_pvdomain.proofs.Names.{node_comes_at_entry, halts, Named, enters, met_in, stored_in}
+use Rattle.lk_pvdomain.proofs.Names.{IsSoundSpinWorld, World, stands, acts', asks, calls_are, kept}
+use Rattle.lk_pvdomain.proofs.Names.{top_live, IsOwn, own_row, counted_after, Poised, IsSeen}
+use Rattle.lk_pvdomain.proofs.Names.{bare_me, MayFree, bare, roll_stays, Begins, Calls, StandsOn}
+use Rattle.lk_pvdomain.proofs.Names.{acting, lock_name, row_of, terms_of, Slot, locks_of, went}
+use Rattle.lk_pvdomain.proofs.Names.{Runs, Seeks, node_name, seeks_entry, waiter, Stand, IsNumbered}
+use Rattle.lk_pvdomain.proofs.Names.{IsNode, OfHash, hash_at, node_number, pair_number, places_of}
+use Rattle.lk_pvdomain.proofs.Names.{Plan, MOST_LOCKS, View, fills}
+use Rattle.atomic_table.specs.Table.{State as Table}
+use mathlib.Core.Option.{Option as Maybe}
+use Rattle.lk_rows.specs.declared.parts.Pc.TheVariants.{E6, K3}
 use Rattle.lk_law.proofs.common.Knows.{row_knows}
-use Rattle.lk_law.proofs.running.Calm.{node_comes_at_entry}
-use Rattle.lk_domain.specs.Calls.{terms_of, Calls, StandsOn, row_of, acting, Begins, lock_name}
-use Rattle.lk_domain.specs.Keeps.{Slot}
-use Rattle.lk_domain.specs.Plans.{locks_of}
-use Rattle.lk_domain.specs.Plays.{went}
-use Rattle.lk_domain.specs.Runs.{waiter, node_name, Runs, Seeks, seeks_entry}
-use Rattle.lk_domain.specs.Stand.{Stand}
-use Rattle.lk_domain.specs.Views.{IsNumbered}
-use Rattle.lk_domain.specs.Words.{OfHash, places_of, node_number, hash_at, pair_number, IsNode}
-use Rattle.lk_domain.specs.declared.plan.Plan.{Plan}
-use Rattle.lk_domain.specs.declared.plan.TheConstants.{MOST_LOCKS}
-use Rattle.lk_domain.specs.declared.view.View.{View}
-use Rattle.lk_domain.proofs.queue.LockSwaps.{stands}
-use Rattle.lk_domain.proofs.queue.NodePlays.{acts', asks, calls_are, kept}
-use Rattle.lk_domain.proofs.queue.OnNodes.{top_live}
-use Rattle.lk_domain.proofs.rows.Grips.{IsOwn, own_row}
+use Rattle.lk_law.specs.Steps.{put_entry}
+use Rattle.lk_pvdomain.proofs.HashMaps.{filled, pair_is, plain_is, put_pair, pair_here, pair_else}
+use Rattle.lk_pvdomain.proofs.{HashMaps.hash_written, Unmarked.{unseen_links, marks_stay, fill_off}}
+use Rattle.lk_pvdomain.specs.{PvPlays.{AtFill, Fills}, PvRows.filled_with}
 use Rattle.lk_domain.proofs.rows.Lands as lands
-use Rattle.lk_domain.proofs.rows.Kept.{counted_after}
-use Rattle.lk_domain.proofs.rows.Poised.{Poised}
-use Rattle.lk_domain.proofs.rows.Sights.{IsSeen}
-use Rattle.lk_domain.proofs.words.Written.{bare, roll_stays}
-use Rattle.lk_domain.proofs.words.LockPlays.{MayFree}
-use Rattle.lk_pvdomain.specs.PvPlays.{AtFill, Fills}
-use Rattle.lk_pvdomain.specs.PvRows.{fills, filled_with}
-use Rattle.lk_pvdomain.proofs.HashMaps.{filled, pair_is, plain_is, put_pair, pair_here, pair_else, hash_written}
-use Rattle.lk_domain.proofs.rows.Users.{bare_me}
-use Rattle.lk_pvdomain.proofs.Unmarked.{unseen_links, marks_stay, fill_off}
 
 pub fill_seen : (c : Pc) (f : Frame) (r : Option ℕ) → fills c ≡ true → IsSeen c (target c f) r
 fill_seen E6 f r h = (tt, tt)

@@ -1,56 +1,33 @@
 -- The steps on the kick word of a processor: a halt, and its end.
-use Rattle.std.proofs.Common.{◌≡◌, ◌≢◌, inl, ℕ, ◌<◌, List, [], ◌∷◌, set, get_or}
-use Rattle.std.proofs.Common.{Option, Some, None, Bool, true, false, eqb, eq-eqb, ne_eqb, refl, sym, ap, ◌∙◌, subst, arith}
-use Rattle.std.specs.Prelude.{if◌then◌else◌, ◌&&◌, not, is_some}
-use mathlib.Core.Option.{Option as Maybe, some}
-use lib.ListN.{get_elem?}
+use Rattle.std.proofs.Common.{◌≡◌, ◌≢◌, inl, ℕ, ◌<◌, List, [], ◌∷◌, set, get_or, Option, Some, None}
+use Rattle.std.proofs.Common.{Bool, true, false, eqb, eq-eqb, ne_eqb, refl, sym, ap, ◌∙◌, subst}
+use Rattle.std.proofs.Common.{arith, if◌then◌else◌, ◌&&◌, not, is_some}
+use Rattle.lk_pvdomain.proofs.Names.{get_elem?, some, NodeName, LockName, Waiter, node_of, target}
+use Rattle.lk_pvdomain.proofs.Names.{Frame, Node, Pc, E12, G1, U5, W6, Verb, if-false}
+use Rattle.lk_pvdomain.proofs.Names.{node_comes_at_entry, halts, Marked, enters, met_in, stored_in}
+use Rattle.lk_pvdomain.proofs.Names.{World, in_plan, top_live, IsOwn, own_row, counted_after}
+use Rattle.lk_pvdomain.proofs.Names.{Poised, IsSeen, bare_me, roll_stays, Begins, Calls, Running}
+use Rattle.lk_pvdomain.proofs.Names.{StandsOn, acting, frame_in, row_of, terms_of, cpus_of, Runs}
+use Rattle.lk_pvdomain.proofs.Names.{Seeks, node_name, seeks_entry, waiter, OfKick, node_number}
+use Rattle.lk_pvdomain.proofs.Names.{Plan, View, woken, halts_at}
 use Rattle.atomic_table.specs.Table.{State as Table}
+use mathlib.Core.Option.{Option as Maybe}
 use Rattle.lk_names.specs.Lawful.{Rules}
-use Rattle.lk_names.specs.declared.names.Waiter.{Waiter}
-use Rattle.lk_names.specs.declared.names.LockName.{LockName}
-use Rattle.lk_word.specs.declared.spin_word.NodeName.{NodeName}
-use Rattle.lk_rows.specs.declared.parts.Node.{Node}
-use Rattle.lk_rows.specs.declared.parts.Frame.{Frame}
-use Rattle.lk_rows.specs.declared.parts.Pc.{Pc}
-use Rattle.lk_rows.specs.declared.parts.Pc.TheVariants.{G1, W6, E12, U5}
-use Rattle.lk_rows.specs.Moves.{node_of}
-use Rattle.lk_rows.specs.declared.setup.Verb.{Verb}
 use Rattle.lk_rows.specs.Acts.{stands_halting, after_halt}
-use Rattle.lk_rows.specs.TopRow.{target}
-use Rattle.lk_law.specs.Agree.{halts}
-use Rattle.lk_law.specs.Families.{chooses}
-use Rattle.lk_law.specs.Leads.{Marked, met_in, stored_in, enters}
-use Rattle.lk_law.specs.Premises.{IsNewest, roused}
-use Rattle.lk_law.specs.Steps.{put_halted, put_kicked}
-use Rattle.lk_law.specs.World.{World}
-use Rattle.lk_law.proofs.common.Puts.{if-false}
 use Rattle.lk_law.proofs.pv.HaltLayers.{wake_keeps}
-use Rattle.lk_law.proofs.running.Calm.{node_comes_at_entry}
-use Rattle.lk_domain.specs.Calls.{terms_of, Running, Calls, StandsOn, Stacked, AreFresh, row_of, acting, Begins}
-use Rattle.lk_domain.specs.Calls.{frame_in, begins_release, is_seeking, is_leaving}
-use Rattle.lk_domain.specs.Plans.{cpus_of}
-use Rattle.lk_domain.specs.Runs.{waiter, node_name, SeatFits, Runs, Seeks, seeks_entry, Mirrors}
-use Rattle.lk_domain.specs.Words.{OfKick, with_mark, node_number, kick_at, mark_number}
-use Rattle.lk_domain.specs.declared.plan.Plan.{Plan}
-use Rattle.lk_domain.specs.declared.view.View.{View}
-use Rattle.lk_domain.proofs.Stacks.{frame_in-above}
-use Rattle.lk_domain.proofs.rows.Begun.{same_at, else_at}
-use Rattle.lk_domain.proofs.rows.Grips.{IsOwn, own_row}
-use Rattle.lk_domain.proofs.rows.Changes.{kick_changes}
+use Rattle.lk_law.specs.{Families.chooses, Premises.{IsNewest, roused}}
+use Rattle.lk_law.specs.Steps.{put_halted, put_kicked}
 use Rattle.lk_waits.proofs.Attended.{wake_attended}
+use Rattle.lk_domain.proofs.{Stacks.frame_in-above, queue.LockSwaps.set_self}
+use Rattle.lk_domain.proofs.{rows.Begun.{same_at, else_at}, rows.Changes.kick_changes}
+use Rattle.lk_domain.proofs.{rows.Kept.halting_same, rows.Writes.row_step}
+use Rattle.lk_domain.proofs.words.Written.{renumbered, same_numbers, written}
+use Rattle.lk_domain.specs.Calls.{Stacked, AreFresh, begins_release, is_seeking, is_leaving}
+use Rattle.lk_domain.specs.{Runs.{SeatFits, Mirrors}, Words.{with_mark, kick_at, mark_number}}
+use Rattle.lk_pvdomain.proofs.Unmarked.{unseen_links, marks_stay, untold}
+use Rattle.lk_pvdomain.specs.PvPlays.{stirred}
 use Rattle.lk_domain.proofs.rows.Kept as rule
 use Rattle.lk_domain.proofs.rows.Lands as lands
-use Rattle.lk_domain.proofs.rows.Kept.{counted_after, halting_same}
-use Rattle.lk_domain.proofs.rows.Writes.{row_step}
-use Rattle.lk_domain.proofs.rows.Poised.{Poised}
-use Rattle.lk_domain.proofs.rows.Sights.{IsSeen}
-use Rattle.lk_domain.proofs.words.Written.{renumbered, roll_stays, same_numbers, written}
-use Rattle.lk_domain.proofs.queue.LockSwaps.{set_self}
-use Rattle.lk_domain.proofs.queue.OnNodes.{in_plan, top_live}
-use Rattle.lk_pvdomain.specs.PvRows.{halts_at}
-use Rattle.lk_pvdomain.specs.PvPlays.{stirred, woken}
-use Rattle.lk_domain.proofs.rows.Users.{bare_me}
-use Rattle.lk_pvdomain.proofs.Unmarked.{unseen_links, marks_stay, untold}
 
 if_if : {A : Type 0} (b : Bool) (x y z : A) → (if b then x else (if b then y else z)) ≡ (if b then x else z)
 if_if true x y z = refl

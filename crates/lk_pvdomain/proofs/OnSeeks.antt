@@ -1,64 +1,34 @@
 -- The steps of who seeks the entry of a lock in the hash: a look at the next place, and the one that takes
 -- the entry out.
-use Rattle.std.proofs.Common.{◌≡◌, ◌≢◌, ◌⊎◌, inl, inr, ℕ, ◌+◌, ◌<◌, ◌≤◌, List, ◌∷◌, set, get_or, ⊎_elim}
-use Rattle.std.proofs.Common.{Option, Some, None, Bool, true, false, refl, sym, ap, ◌∙◌, subst, arith}
-use Rattle.std.proofs.lemmas.Bool.{cases_eq, cases_lt}
-use Rattle.std.specs.Prelude.{if◌then◌else◌}
-use mathlib.Core.Option.{Option as Maybe, some}
-use lib.ListN.{get_elem?}
-use Rattle.atomic_table.specs.Table.{State as Table, Me, keeps, Allows}
-use Rattle.lk_names.specs.Names.{same_lock}
-use Rattle.lk_names.specs.History.{LockHistory}
-use Rattle.lk_names.specs.declared.names.Waiter.{Waiter}
-use Rattle.lk_names.specs.declared.names.LockName.{LockName}
-use Rattle.lk_word.specs.declared.spin_word.NodeName.{NodeName}
-use Rattle.lk_rows.specs.declared.parts.Node.{Node}
-use Rattle.lk_rows.specs.declared.parts.Frame.{Frame}
-use Rattle.lk_rows.specs.declared.parts.Pc.{Pc}
-use Rattle.lk_rows.specs.declared.parts.Pc.TheVariants.{G1, E9, U3}
-use Rattle.lk_rows.specs.declared.setup.Verb.{Verb}
-use Rattle.lk_rows.specs.TopRow.{target}
-use Rattle.lk_law.specs.Agree.{halts}
-use Rattle.lk_law.specs.Leads.{Named, met_in, stored_in, enters}
-use Rattle.lk_law.specs.Places.{post_of, post_on}
-use Rattle.lk_law.specs.Pv.{post_holds}
-use Rattle.lk_law.specs.SpinWorld.{IsSoundSpinWorld}
-use Rattle.lk_law.specs.Steps.{put_entry}
-use Rattle.lk_law.specs.World.{World}
-use Rattle.lk_law.proofs.common.Worlds.{post_on-here}
-use Rattle.lk_law.proofs.pv.Laws.{para_only}
-use Rattle.lk_law.proofs.running.Calm.{node_comes_at_entry}
-use Rattle.lk_domain.specs.Calls.{terms_of, Running, Calls, StandsOn, row_of, acting, Begins, lock_name, running}
-use Rattle.lk_domain.specs.Keeps.{Slot}
-use Rattle.lk_domain.specs.Plans.{locks_of}
-use Rattle.lk_domain.specs.Plays.{went}
-use Rattle.lk_domain.specs.Runs.{waiter, node_name, SeatFits, Runs, IsHashed, Seeks, seeks_entry, Sought}
-use Rattle.lk_domain.specs.Stand.{Stand}
-use Rattle.lk_domain.specs.Views.{IsNumbered}
-use Rattle.lk_domain.specs.Words.{OfHash, places_of, node_number, hash_at}
-use Rattle.lk_domain.specs.Words.{pair_number, IsNode}
-use Rattle.lk_domain.specs.declared.plan.Plan.{Plan}
-use Rattle.lk_domain.specs.declared.plan.TheConstants.{MOST_LOCKS}
-use Rattle.lk_domain.specs.declared.view.View.{View}
-use Rattle.lk_domain.proofs.journals.Purses.{alters_at, knows_same}
-use Rattle.lk_domain.proofs.queue.LockSwaps.{set_self}
-use Rattle.lk_domain.proofs.queue.NodePlays.{acts', asks, calls_are, kept, planned}
-use Rattle.lk_domain.proofs.queue.OnNodes.{top_live}
-use Rattle.lk_domain.proofs.rows.Grips.{IsOwn, own_row}
+use Rattle.std.proofs.Common.{◌≡◌, ◌≢◌, ◌⊎◌, inl, inr, ℕ, ◌+◌, ◌<◌, ◌≤◌, List, ◌∷◌, set, get_or}
+use Rattle.std.proofs.Common.{⊎_elim, Option, Some, None, Bool, true, false, refl, sym, ap, ◌∙◌}
+use Rattle.std.proofs.Common.{subst, arith, if◌then◌else◌}
+use Rattle.std.proofs.lemmas.Bool.{cases_lt}
+use Rattle.lk_pvdomain.proofs.Names.{cases_eq, Allows, Me, keeps, get_elem?, some, NodeName}
+use Rattle.lk_pvdomain.proofs.Names.{LockHistory, same_lock, LockName, Waiter, target, Frame, Node}
+use Rattle.lk_pvdomain.proofs.Names.{Pc, E9, G1, U3, Verb, node_comes_at_entry, halts, Named}
+use Rattle.lk_pvdomain.proofs.Names.{enters, met_in, stored_in, IsSoundSpinWorld, World, acts'}
+use Rattle.lk_pvdomain.proofs.Names.{asks, calls_are, kept, top_live, IsOwn, own_row, counted_after}
+use Rattle.lk_pvdomain.proofs.Names.{Poised, IsSeen, bare_me, MayFree, bare, roll_stays, Begins}
+use Rattle.lk_pvdomain.proofs.Names.{Calls, Running, StandsOn, acting, lock_name, row_of, running}
+use Rattle.lk_pvdomain.proofs.Names.{terms_of, Slot, locks_of, went, Runs, Seeks, node_name}
+use Rattle.lk_pvdomain.proofs.Names.{seeks_entry, waiter, Stand, IsNumbered, IsNode, OfHash}
+use Rattle.lk_pvdomain.proofs.Names.{hash_at, node_number, pair_number, places_of, Plan, MOST_LOCKS}
+use Rattle.lk_pvdomain.proofs.Names.{View, erases}
+use Rattle.atomic_table.specs.Table.{State as Table}
+use mathlib.Core.Option.{Option as Maybe}
+use Rattle.lk_law.proofs.{common.Worlds.post_on-here, pv.Laws.para_only}
+use Rattle.lk_law.specs.{Places.{post_of, post_on}, Pv.post_holds, Steps.put_entry}
+use Rattle.lk_domain.proofs.{journals.Purses.{alters_at, knows_same}, queue.LockSwaps.set_self}
+use Rattle.lk_domain.proofs.{queue.NodePlays.planned, rows.Kept.halting_same, seats.Totals.apart}
+use Rattle.lk_domain.specs.Runs.{SeatFits, IsHashed, Sought}
+use Rattle.lk_pvdomain.proofs.HashMaps.{emptied, entry_was, plain_is, decide, pair_lock, put_pair}
+use Rattle.lk_pvdomain.proofs.HashMaps.{pair_here, pair_else, hash_written}
+use Rattle.lk_pvdomain.proofs.OnHash.{none_some, sought_entry}
+use Rattle.lk_pvdomain.proofs.Unmarked.{unseen_links, marks_stay, erase_off}
+use Rattle.lk_pvdomain.specs.PvPlays.{AtSeek, Empties, SeesHash, IsOther, passed_on, spotted}
 use Rattle.lk_domain.proofs.rows.Kept as rule
 use Rattle.lk_domain.proofs.rows.Lands as lands
-use Rattle.lk_domain.proofs.rows.Kept.{counted_after, halting_same}
-use Rattle.lk_domain.proofs.rows.Poised.{Poised}
-use Rattle.lk_domain.proofs.rows.Sights.{IsSeen}
-use Rattle.lk_domain.proofs.seats.Totals.{apart}
-use Rattle.lk_domain.proofs.words.Written.{bare, roll_stays}
-use Rattle.lk_domain.proofs.words.LockPlays.{MayFree}
-use Rattle.lk_pvdomain.specs.PvPlays.{AtSeek, Empties, SeesHash, IsOther, passed_on, spotted}
-use Rattle.lk_pvdomain.specs.PvRows.{erases}
-use Rattle.lk_pvdomain.proofs.HashMaps.{emptied, entry_was, plain_is, decide, pair_lock, put_pair, pair_here, pair_else, hash_written}
-use Rattle.lk_pvdomain.proofs.OnHash.{none_some, sought_entry}
-use Rattle.lk_domain.proofs.rows.Users.{bare_me}
-use Rattle.lk_pvdomain.proofs.Unmarked.{unseen_links, marks_stay, erase_off}
 
 pub erase_seen : (c : Pc) (f : Frame) (r : Option ℕ) → erases c ≡ true → IsSeen c (target c f) r
 erase_seen U3 f r h = (tt, tt)

@@ -1,41 +1,21 @@
 -- The steps on the state of a node.
-use Rattle.std.proofs.Common.{◌≡◌, ◌≢◌, ℕ, List, set, get_or}
-use Rattle.std.proofs.Common.{Option, Some, None, true, false, refl, sym, ap, ◌∙◌}
+use Rattle.std.proofs.Common.{◌≡◌, ◌≢◌, ℕ, List, set, get_or, Option, Some, None, true, false, refl}
+use Rattle.std.proofs.Common.{sym, ap, ◌∙◌}
 use Rattle.std.specs.Prelude.{unwrap_or}
-use mathlib.Core.Option.{Option as Maybe, some}
-use lib.ListN.{get_elem?}
+use Rattle.lk_pvdomain.proofs.Names.{get_elem?, some, NodeName, LockName, Waiter, target, Frame}
+use Rattle.lk_pvdomain.proofs.Names.{Node, Pc, G1, W7, State, Halted, Hashed, Verb}
+use Rattle.lk_pvdomain.proofs.Names.{node_comes_at_entry, halts, Stated, enters, met_in, stored_in}
+use Rattle.lk_pvdomain.proofs.Names.{World, IsOwn, own_row, Poised, IsSeen, Begins, StandsOn}
+use Rattle.lk_pvdomain.proofs.Names.{acting, row_of, terms_of, Runs, waiter, IsNode, OfState}
+use Rattle.lk_pvdomain.proofs.Names.{state_at, state_number, Plan, View}
 use Rattle.atomic_table.specs.Table.{State as Table}
-use Rattle.lk_names.specs.declared.names.Waiter.{Waiter}
-use Rattle.lk_names.specs.declared.names.LockName.{LockName}
-use Rattle.lk_word.specs.declared.spin_word.NodeName.{NodeName}
-use Rattle.lk_rows.specs.declared.parts.State.{State}
-use Rattle.lk_rows.specs.declared.parts.State.TheVariants.{Running, Halted, Hashed}
-use Rattle.lk_rows.specs.declared.parts.Node.{Node}
-use Rattle.lk_rows.specs.declared.parts.Frame.{Frame}
-use Rattle.lk_rows.specs.declared.parts.Pc.{Pc}
-use Rattle.lk_rows.specs.declared.parts.Pc.TheVariants.{G1, C1, W7}
-use Rattle.lk_rows.specs.declared.setup.Verb.{Verb}
-use Rattle.lk_rows.specs.rows.Pv.{state_row}
-use Rattle.lk_rows.specs.TopRow.{Target, StateOf, RwWord, target}
-use Rattle.lk_law.specs.Leads.{Stated, met_in, stored_in, enters}
+use mathlib.Core.Option.{Option as Maybe}
+use Rattle.lk_rows.specs.{TopRow.{Target, StateOf, RwWord}, declared.parts.Pc.TheVariants.C1}
+use Rattle.lk_rows.specs.{declared.parts.State.TheVariants.Running, rows.Pv.state_row}
 use Rattle.lk_law.specs.Steps.{stores_state}
-use Rattle.lk_law.specs.World.{World}
-use Rattle.lk_law.proofs.running.Calm.{node_comes_at_entry}
-use Rattle.lk_domain.specs.Calls.{terms_of, StandsOn, row_of, acting, Begins}
-use Rattle.lk_domain.specs.Runs.{waiter, Runs}
-use Rattle.lk_domain.specs.Words.{state_at, state_number}
-use Rattle.lk_domain.specs.Words.{IsNode}
-use Rattle.lk_domain.specs.declared.plan.Plan.{Plan}
-use Rattle.lk_domain.specs.declared.view.View.{View}
-use Rattle.lk_domain.proofs.rows.Grips.{IsOwn, own_row}
-use Rattle.lk_domain.proofs.rows.Lands as lands
-use Rattle.lk_domain.proofs.rows.Poised.{Poised}
-use Rattle.lk_domain.proofs.rows.Sights.{IsSeen}
-use Rattle.lk_domain.proofs.rows.Changes.{IsAt, node_here}
-use Rattle.lk_domain.proofs.rows.Writes.{row_step}
-use Rattle.lk_domain.specs.Words.{OfState}
+use Rattle.lk_domain.proofs.{rows.Changes.{IsAt, node_here}, rows.Writes.row_step}
 use Rattle.lk_pvdomain.proofs.Unmarked.{unseen_links}
-use Rattle.lk_law.specs.Agree.{halts}
+use Rattle.lk_domain.proofs.rows.Lands as lands
 
 -- the row is on the state of this node
 

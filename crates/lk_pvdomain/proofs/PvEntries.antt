@@ -1,35 +1,17 @@
 -- The row that takes a node, where processors halt: by the last private store, which resets the state.
-use Rattle.std.proofs.Common.{◌≡◌, ℕ, ◌<◌, List, set, Some, true}
-use Rattle.std.proofs.Common.{refl, sym, ap, ◌∙◌, subst, arith}
-use mathlib.Core.Option.{Option as Maybe, some}
-use lib.ListN.{get_elem?}
-use Rattle.atomic_table.specs.Table.{State as Table, Me, keeps, Allows}
-use Rattle.lk_names.specs.declared.names.LockName.{LockName}
-use Rattle.lk_names.specs.declared.names.Mode.{Mode}
-use Rattle.lk_names.specs.declared.names.Mode.TheVariants.{Virt, Native, Cna, Pv}
-use Rattle.lk_word.specs.declared.spin_word.NodeName.{NodeName}
-use Rattle.lk_rows.specs.declared.parts.Node.{Node}
-use Rattle.lk_rows.specs.declared.parts.Pc.TheVariants.{G1}
-use Rattle.lk_rows.specs.declared.setup.Verb.{Verb}
-use Rattle.lk_law.specs.Agree.{halts}
-use Rattle.lk_law.specs.Leads.{Met, Number}
-use Rattle.lk_domain.specs.Calls.{terms_of, StandsOn, row_of, acting, Begins, slows}
-use Rattle.lk_domain.specs.Keeps.{Slot}
-use Rattle.lk_domain.specs.NodePlays.{AtEntry, Enters}
-use Rattle.lk_domain.specs.Plays.{went}
-use Rattle.lk_domain.specs.Runs.{node_name, Runs}
-use Rattle.lk_domain.specs.Stand.{Stand}
-use Rattle.lk_domain.specs.Views.{IsNumbered}
-use Rattle.lk_domain.specs.Words.{OfState, part_index, has_part, state_at, state_number}
-use Rattle.lk_domain.specs.declared.part.Part.{Part}
-use Rattle.lk_domain.specs.declared.part.Part.TheVariants as part
-use Rattle.lk_domain.specs.declared.plan.Plan.{Plan}
-use Rattle.lk_domain.specs.declared.view.View.{View}
-use Rattle.lk_domain.proofs.queue.Entries as entry
-use Rattle.lk_domain.proofs.queue.NodePlays.{acts', asks, calls_are, kept}
-use Rattle.lk_domain.proofs.queue.OnNodes.{in_plan}
+use Rattle.std.proofs.Common.{◌≡◌, ℕ, ◌<◌, List, set, Some, true, refl, sym, ap, ◌∙◌, subst, arith}
+use Rattle.lk_pvdomain.proofs.Names.{Allows, Me, keeps, get_elem?, some, NodeName, LockName, Mode}
+use Rattle.lk_pvdomain.proofs.Names.{Cna, Native, Pv, Virt, Node, G1, Verb, halts, Met, acts', asks}
+use Rattle.lk_pvdomain.proofs.Names.{calls_are, kept, in_plan, bare, Begins, StandsOn, acting}
+use Rattle.lk_pvdomain.proofs.Names.{row_of, terms_of, Slot, AtEntry, Enters, went, Runs, node_name}
+use Rattle.lk_pvdomain.proofs.Names.{Stand, IsNumbered, OfState, state_at, state_number, Plan, View}
+use Rattle.atomic_table.specs.Table.{State as Table}
+use mathlib.Core.Option.{Option as Maybe}
+use Rattle.lk_law.specs.{Leads.Number}
 use Rattle.lk_domain.proofs.queue.Unfreed.{G1_frees}
-use Rattle.lk_domain.proofs.words.Written.{bare}
+use Rattle.lk_domain.specs.{Calls.slows, Words.{part_index, has_part}, declared.part.Part.Part}
+use Rattle.lk_domain.specs.declared.part.Part.TheVariants as part
+use Rattle.lk_domain.proofs.queue.Entries as entry
 
 -- a node has two words that are no state
 two_parts : (mode : Mode) (q : Part) → halts mode ≡ true → has_part mode q ≡ true → part_index q < 2

@@ -1,14 +1,11 @@
 -- A table runs by the plan of a domain whose waiters halt.
-use Rattle.std.proofs.Common.{◌≡◌, ℕ, zero, suc, length, refl, sym, ap, ◌∙◌, get_or, true, arith}
-use Rattle.std.specs.Prelude.{replicate}
+use Rattle.std.proofs.Common.{◌≡◌, ℕ, zero, suc, length, refl, sym, ap, ◌∙◌, get_or, true}
+use Rattle.std.proofs.Common.{arith, replicate}
 use Rattle.std.specs.List.{sum}
+use Rattle.lk_pvdomain.proofs.Names.{Mode, halts, turns_by, turns_of, Plan}
 use Rattle.lk_names.specs.declared.names.Kind.TheVariants.{Spin}
-use Rattle.lk_names.specs.declared.names.Mode.{Mode}
-use Rattle.lk_law.specs.Agree.{halts}
-use Rattle.lk_domain.specs.Plans.{IsRunningPlan, turns_of, turns_by}
-use Rattle.lk_domain.specs.declared.plan.Plan.{Plan}
-use Rattle.lk_pvdomain.specs.PvPlans.{IsLawful, IsPlanOf}
-use Rattle.lk_pvdomain.specs.declared.plan.PvPlan.{PvPlan}
+use Rattle.lk_domain.specs.Plans.{IsRunningPlan}
+use Rattle.lk_pvdomain.specs.{PvPlans.{IsLawful, IsPlanOf}, declared.plan.PvPlan.PvPlan}
 
 -- all kinds of a list of spinlocks are that
 pub all_spin : (n i : ℕ) → get_or (replicate n Spin) i Spin ≡ Spin

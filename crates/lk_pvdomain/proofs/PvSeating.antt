@@ -1,19 +1,11 @@
 -- The seat of a processor that may halt, as the steps at the ledger ask for it; and what it is after a call.
-use denote.Param.Send.{IsSync, sendable}
-use Rattle.std.proofs.Crossing.{crosses}
-use Rattle.lk_domain.proofs.Crossing.{domain_field_sync}
-use Rattle.lk_pvdomain.specs.contracts.domain.PvDomain as Contract
 use Rattle.std.proofs.Common.{◌≡◌, ◌<◌, ℕ, true, false, sym, ap, ◌∙◌, subst}
-use Rattle.std.proofs.Math.Bool.{Bool-set}
-use Rattle.lk_law.specs.Agree.{halts}
-use Rattle.lk_domain.specs.Plans.{cpus_of}
-use Rattle.lk_domain.specs.Who.{Who}
-use Rattle.lk_domain.specs.declared.domain.Domain.{Domain}
-use Rattle.lk_domain.specs.declared.plan.Plan.{Plan}
-use Rattle.lk_domain.specs.Seats.{IsSame}
+use Rattle.std.proofs.{Crossing.crosses, Math.Bool.Bool-set}
+use Rattle.lk_pvdomain.proofs.Names.{halts, cpus_of, IsSame, Who, Cpu, Domain, Plan, PvDomain}
+use denote.Param.Send.{IsSync, sendable}
+use Rattle.lk_domain.proofs.Crossing.{domain_field_sync}
 use Rattle.lk_pvdomain.specs.PvSeats.{IsOf}
-use Rattle.lk_domain.specs.declared.cpu.Cpu.{Cpu}
-use Rattle.lk_pvdomain.specs.declared.domain.PvDomain.{PvDomain}
+use Rattle.lk_pvdomain.specs.contracts.domain.PvDomain as Contract
 
 -- its family halts, so that it notes nothing
 pub not_awake : (d : PvDomain) (cpu : Cpu) → IsOf cpu d → (w : Who) → w ≡ cpu.seat.me.0.who → halts w.plan.mode ≡ false → ⊥

@@ -1,45 +1,22 @@
 -- What the swaps of a byte ask that are made by exchanges of the whole word.
-use Rattle.std.proofs.Common.{◌≡◌, ◌≢◌, inl, inr, ℕ, ◌+◌, ◌-◌, ◌%◌, ◌<◌, set, get_or, Option, None, Bool, true, false}
-use Rattle.std.proofs.Common.{refl, sym, ap, ◌∙◌, subst, arith, eqb, eq-eqb, ne_eqb, ⊎_elim}
-use Rattle.std.proofs.lemmas.Bool.{cases_Bool}
-use Rattle.std.specs.Prelude.{unwrap_or, if◌then◌else◌, ◌&&◌, ◌==◌}
-use mathlib.Core.Logic.{dite}
-use native.Mathlib.Decide.{ℕ_discrete}
-use prog.Atomic.{either}
-use Rattle.atomic_table.specs.Table.{Me, Step, keeps, Allows, stepped}
-use Rattle.lk_names.specs.declared.names.LockName.{LockName}
-use Rattle.lk_names.specs.declared.names.Mode.{Mode}
-use Rattle.lk_word.specs.declared.spin_word.NodeName.{NodeName}
-use Rattle.lk_word.specs.declared.spin_word.Fields.{Fields}
-use Rattle.lk_word.specs.declared.spin_word.Locked.{Locked}
-use Rattle.lk_word.specs.declared.spin_word.Locked.TheVariants.{Free, Held, Slow}
-use Rattle.lk_word.specs.declared.spin_word.Layout.{Layout}
+use Rattle.std.proofs.Common.{◌≡◌, ◌≢◌, inl, inr, ℕ, ◌+◌, ◌-◌, ◌%◌, ◌<◌, set, get_or, Option, None}
+use Rattle.std.proofs.Common.{Bool, true, false, refl, sym, ap, ◌∙◌, subst, arith, eqb, eq-eqb}
+use Rattle.std.proofs.Common.{ne_eqb, ⊎_elim, if◌then◌else◌, ◌&&◌, ◌==◌}
+use Rattle.std.specs.Prelude.{unwrap_or}
+use Rattle.lk_pvdomain.proofs.Names.{cases_Bool, Allows, Me, keeps, dite, ℕ_discrete, either}
+use Rattle.lk_pvdomain.proofs.Names.{Fields, Layout, Locked, Free, Held, Slow, NodeName, LockName}
+use Rattle.lk_pvdomain.proofs.Names.{Mode, target, Frame, Pc, H2, Verb, Lock, Unlock, Word, stands}
+use Rattle.lk_pvdomain.proofs.Names.{MayFree, Begins, Frees, StandsOn, acting, lock_name, AllHome}
+use Rattle.lk_pvdomain.proofs.Names.{Slot, layout_in, locks_of, made, Stand, IsNumbered, Plan, View}
+use Rattle.lk_pvdomain.proofs.Names.{TriedBy, head_fails, release_fails, steal_fails, tries_release}
+use Rattle.atomic_table.specs.Table.{Step, stepped}
 use Rattle.lk_word.specs.SpinWord.{packed}
-use Rattle.lk_rows.specs.declared.parts.Frame.{Frame}
-use Rattle.lk_rows.specs.declared.parts.Pc.{Pc}
-use Rattle.lk_rows.specs.declared.parts.Pc.TheVariants.{E4, H2, U2}
-use Rattle.lk_rows.specs.declared.setup.Verb.{Verb}
-use Rattle.lk_rows.specs.declared.setup.Verb.TheVariants.{Lock, Unlock}
-use Rattle.lk_rows.specs.Row.{Effect}
-use Rattle.lk_rows.specs.rows.Pv.{pv_row}
-use Rattle.lk_rows.specs.TopRow.{target}
-use Rattle.lk_law.specs.Leads.{Word}
-use Rattle.lk_domain.specs.Calls.{StandsOn, acting, Begins, grip_led, Frees, lock_name}
-use Rattle.lk_domain.specs.Keeps.{AllHome, Slot}
-use Rattle.lk_domain.specs.Plans.{locks_of, layout_in}
-use Rattle.lk_domain.specs.Plays.{ActsOn, made}
-use Rattle.lk_domain.specs.Stand.{Stand}
-use Rattle.lk_domain.specs.Views.{IsNumbered}
-use Rattle.lk_domain.specs.Words.{word_at, lock_at}
-use Rattle.lk_domain.specs.declared.plan.Plan.{Plan}
-use Rattle.lk_domain.specs.declared.view.View.{View}
-use Rattle.lk_domain.proofs.words.LockPlays as plays
-use Rattle.lk_domain.proofs.words.LockPlays.{MayFree}
+use Rattle.lk_rows.specs.{Row.Effect, declared.parts.Pc.TheVariants.{E4, U2}, rows.Pv.pv_row}
 use Rattle.lk_domain.proofs.words.OnWords.{OnWord, word_stores}
-use Rattle.lk_domain.proofs.queue.LockSwaps.{stands}
-use Rattle.lk_pvdomain.specs.PvPlays.{TriedBy, Tries, release_fails, head_fails, steal_fails}
+use Rattle.lk_domain.specs.{Calls.grip_led, Plays.ActsOn, Words.{word_at, lock_at}}
 use Rattle.lk_pvdomain.proofs.Fails.{tail_512, head_failed}
-use Rattle.lk_pvdomain.specs.PvRows.{tries_release, tries_head, tries_steal}
+use Rattle.lk_pvdomain.specs.{PvPlays.Tries, PvRows.{tries_head, tries_steal}}
+use Rattle.lk_domain.proofs.words.LockPlays as plays
 
 module _ (k : Plan) (slots id : ℕ) (m : Me Slot View) (number : IsNumbered m.0) (verb : Verb)
     (l : LockName) (near : l.index < locks_of k) (pc : Pc)

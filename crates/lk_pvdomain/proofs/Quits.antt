@@ -1,41 +1,18 @@
 -- What the last of a queue asks, who leaves it by one exchange of the whole word.
-use Rattle.std.proofs.Common.{◌≡◌, inl, inr, ℕ, ◌+◌, ◌<◌, ◌≤◌, Some, None, true, false, eqb}
-use Rattle.std.proofs.Common.{refl, sym, ap, ◌∙◌, subst}
-use Rattle.std.proofs.lemmas.Bool.{cases_Bool}
-use Rattle.std.specs.Prelude.{unwrap_or, ◌&&◌, not}
-use prog.Atomic.{either}
-use Rattle.lk_names.specs.declared.names.LockName.{LockName}
-use Rattle.lk_names.specs.declared.names.Mode.{Mode}
-use Rattle.lk_word.specs.declared.spin_word.NodeName.{NodeName}
-use Rattle.lk_word.specs.declared.spin_word.Fields.{Fields}
-use Rattle.lk_word.specs.declared.spin_word.Locked.TheVariants.{Held}
-use Rattle.lk_word.specs.declared.spin_word.Layout.{Layout}
-use Rattle.lk_word.specs.SpinWord.{packed, IsPackable, tail_number}
-use Rattle.lk_rows.specs.Moves.{is_node, node_of}
-use Rattle.lk_rows.specs.declared.parts.Frame.{Frame}
-use Rattle.lk_rows.specs.declared.parts.Pc.{Pc}
-use Rattle.lk_rows.specs.declared.parts.Pc.TheVariants.{E13}
-use Rattle.lk_rows.specs.declared.setup.Verb.{Verb}
-use Rattle.lk_rows.specs.rows.Cna.{is_held, is_last}
-use Rattle.lk_rows.specs.TopRow.{target}
-use Rattle.atomic_table.specs.Table.{Me, Allows}
-use Rattle.lk_domain.specs.Keeps.{Slot}
-use Rattle.lk_domain.specs.Plans.{locks_of, layout_in}
-use Rattle.lk_domain.specs.Plays.{WentBy}
-use Rattle.lk_domain.specs.Stand.{Stand}
-use Rattle.lk_domain.specs.Views.{IsNumbered}
-use Rattle.lk_domain.specs.Words.{word_at}
-use Rattle.lk_domain.specs.declared.plan.Plan.{Plan}
-use Rattle.lk_domain.specs.declared.view.View.{View}
-use Rattle.lk_domain.proofs.Acting.{acting_is}
-use Rattle.lk_domain.proofs.words.Onward.{acts_at, asks_on}
-use Rattle.lk_domain.proofs.words.Uses.{either_frees}
-use Rattle.lk_domain.proofs.words.LockPlays.{MayFree}
-use Rattle.lk_domain.proofs.words.Numbers.{held_packed}
-use Rattle.lk_domain.proofs.words.OnWords.{OnWord, word_stores}
+use Rattle.std.proofs.Common.{◌≡◌, inl, inr, ℕ, ◌+◌, ◌<◌, ◌≤◌, Some, None, true, false, eqb, refl}
+use Rattle.std.proofs.Common.{sym, ap, ◌∙◌, subst, ◌&&◌, not}
+use Rattle.std.specs.Prelude.{unwrap_or}
+use Rattle.lk_pvdomain.proofs.Names.{cases_Bool, Allows, Me, either, IsPackable, Fields, Layout}
+use Rattle.lk_pvdomain.proofs.Names.{Held, NodeName, LockName, Mode, is_node, node_of, target}
+use Rattle.lk_pvdomain.proofs.Names.{Frame, Pc, E13, Verb, is_held, acting_is, MayFree, Slot}
+use Rattle.lk_pvdomain.proofs.Names.{layout_in, locks_of, WentBy, Stand, IsNumbered, Plan, View}
+use Rattle.lk_word.specs.SpinWord.{packed, tail_number}
+use Rattle.lk_rows.specs.rows.Cna.{is_last}
 use Rattle.lk_domain.proofs.queue.Pending.{last_word, last_is, last_test}
-use Rattle.lk_pvdomain.specs.PvPlays.{AtLast}
-use Rattle.lk_pvdomain.specs.PvRows.{quits}
+use Rattle.lk_domain.proofs.{words.Numbers.held_packed, words.OnWords.{OnWord, word_stores}}
+use Rattle.lk_domain.proofs.{words.Onward.{acts_at, asks_on}, words.Uses.either_frees}
+use Rattle.lk_domain.specs.Words.{word_at}
+use Rattle.lk_pvdomain.specs.{PvPlays.AtLast, PvRows.quits}
 
 quit_on : (c : Pc) (f : Frame) → quits c ≡ true → OnWord (target c f)
 quit_on E13 f h = tt

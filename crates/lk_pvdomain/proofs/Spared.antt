@@ -1,13 +1,8 @@
 -- A look in place of a store of 0.
 use Rattle.std.proofs.Common.{ℕ, get_or, refl, sym, subst}
-use mathlib.Core.Logic.{dite}
-use native.Mathlib.Decide.{ℕ_discrete}
-use Rattle.atomic_table.specs.Table.{Me, keeps, Allows, stepped}
-use Rattle.lk_domain.specs.Keeps.{Slot}
-use Rattle.lk_domain.specs.Stand.{Stand}
-use Rattle.lk_domain.specs.declared.plan.Plan.{Plan}
-use Rattle.lk_domain.specs.declared.view.View.{View}
-use Rattle.lk_domain.proofs.queue.LockSwaps.{stands}
+use Rattle.lk_pvdomain.proofs.Names.{Allows, Me, keeps, dite, ℕ_discrete, stands, Slot, Stand, Plan}
+use Rattle.lk_pvdomain.proofs.Names.{View}
+use Rattle.atomic_table.specs.Table.{stepped}
 use Rattle.lk_pvdomain.specs.PvPlays.{SparedBy}
 
 -- where the word is 0 it stores what is there

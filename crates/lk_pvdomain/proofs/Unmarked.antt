@@ -1,25 +1,16 @@
 -- Where processors halt no link has a mark, and no front looks along links or links others behind a second
 -- queue: so nothing is to be shown of marks.
 use Rattle.std.proofs.Common.{◌≡◌, ℕ, List, Some, true, false, sym, refl, ◌∙◌}
-use Rattle.lk_names.specs.History.{LockHistory}
-use Rattle.lk_names.specs.declared.names.LockName.{LockName}
-use Rattle.lk_names.specs.declared.names.Waiter.{Waiter}
-use Rattle.lk_word.specs.declared.spin_word.NodeName.{NodeName}
-use Rattle.lk_rows.specs.declared.parts.Frame.{Frame}
-use Rattle.lk_rows.specs.declared.parts.Pc.{Pc}
+use Rattle.lk_pvdomain.proofs.Names.{NodeName, LockHistory, LockName, Waiter, Frame, Pc, halts, Met}
+use Rattle.lk_pvdomain.proofs.Names.{IsSoundSpinWorld, World, Running, frame_in, waiter, erases}
+use Rattle.lk_pvdomain.proofs.Names.{fills, halts_at}
 use Rattle.lk_rows.specs.declared.parts.Pc.TheVariants.{C1, C2, C3, C4, C9}
 use Rattle.lk_rows.specs.declared.parts.Why.{Why}
-use Rattle.lk_law.specs.Agree.{halts}
-use Rattle.lk_law.specs.Families.{chooses}
-use Rattle.lk_law.specs.Leads.{Met}
-use Rattle.lk_law.specs.Nodes.{looks_along, will_link}
-use Rattle.lk_law.specs.SpinWorld.{IsSoundSpinWorld}
-use Rattle.lk_law.specs.World.{World}
 use Rattle.lk_law.proofs.common.Choices.{aside_awake}
-use Rattle.lk_domain.specs.Calls.{Running, frame_in}
-use Rattle.lk_domain.specs.Runs.{waiter, AreTold}
-use Rattle.lk_pvdomain.specs.PvRows.{on_state, halts_at, fills, erases}
+use Rattle.lk_law.specs.{Families.chooses, Nodes.{looks_along, will_link}}
 use Rattle.lk_domain.proofs.rows.Users.{AreRight, KeepsMarks, IsTrue}
+use Rattle.lk_domain.specs.Runs.{AreTold}
+use Rattle.lk_pvdomain.specs.PvRows.{on_state}
 
 along_chooses : (c : Pc) → looks_along c ≡ true → chooses c ≡ true
 along_chooses C1 h = refl

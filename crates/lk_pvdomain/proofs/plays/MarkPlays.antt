@@ -1,47 +1,25 @@
 -- What the steps on kick words ask.
-use Rattle.std.proofs.Common.{◌≡◌, ℕ, ◌<◌, get_or, set, Some, Bool, true, false}
-use Rattle.std.proofs.Common.{refl, sym, ap, ◌∙◌, subst, [], ◌∷◌}
-use mathlib.Core.Logic.{dite}
-use native.Mathlib.Decide.{ℕ_discrete}
-use mathlib.Core.Option.{some}
-use lib.ListN.{get_elem?}
-use Rattle.atomic_table.specs.Table.{State as Table, Me, keeps, Allows}
-use Rattle.lk_names.specs.declared.names.LockName.{LockName}
-use Rattle.lk_rows.specs.declared.parts.Pc.{Pc}
-use Rattle.lk_rows.specs.declared.parts.Pc.TheVariants.{W6, E12, U5}
-use Rattle.lk_rows.specs.declared.setup.Verb.{Verb}
-use Rattle.lk_rows.specs.Moves.{node_of}
-use Rattle.lk_rows.specs.TopRow.{target}
-use Rattle.lk_law.specs.Agree.{halts}
-use Rattle.lk_law.specs.Leads.{Met, Marked, held_lock}
-use Rattle.lk_domain.specs.Calls.{terms_of, Calls, Running, StandsOn, acting, grip_of, plain}
-use Rattle.lk_domain.specs.Keeps.{AllHome, Slot, Keeps, Knows}
-use Rattle.lk_domain.specs.Ledgers.{turned}
-use Rattle.lk_domain.specs.Plans.{cpus_of}
-use Rattle.lk_domain.specs.Plays.{went, turned_of}
-use Rattle.lk_domain.specs.Runs.{Runs}
-use Rattle.lk_domain.specs.Stand.{Stand}
-use Rattle.lk_domain.specs.Views.{IsNumbered, own_number}
-use Rattle.lk_domain.specs.Words.{OfKick, kick_at}
-use Rattle.lk_domain.specs.declared.plan.Plan.{Plan}
-use Rattle.lk_domain.specs.declared.view.View.{View}
-use Rattle.lk_domain.proofs.Acting.{acting_is}
+use Rattle.std.proofs.Common.{◌≡◌, ℕ, ◌<◌, get_or, set, Some, Bool, true, false, refl, sym, ap, ◌∙◌}
+use Rattle.std.proofs.Common.{subst, [], ◌∷◌}
+use Rattle.lk_pvdomain.proofs.Names.{Allows, Me, keeps, get_elem?, dite, some, ℕ_discrete, LockName}
+use Rattle.lk_pvdomain.proofs.Names.{node_of, target, Pc, E12, U5, W6, Verb, halts, Marked, Met}
+use Rattle.lk_pvdomain.proofs.Names.{World, acting_is, stands, acts', asks, calls_are, kept}
+use Rattle.lk_pvdomain.proofs.Names.{in_plan, IsSeen, MayFree, bare, Calls, Running, StandsOn}
+use Rattle.lk_pvdomain.proofs.Names.{acting, terms_of, AllHome, Slot, turned, cpus_of, went, Runs}
+use Rattle.lk_pvdomain.proofs.Names.{Stand, IsNumbered, OfKick, Plan, View, woken, halts_at}
+use Rattle.atomic_table.specs.Table.{State as Table}
+use Rattle.lk_law.specs.Leads.{held_lock}
 use Rattle.lk_domain.proofs.Outs.{acting_holds}
 use Rattle.lk_domain.proofs.journals.Purses.{alters_at, knows_after, knows_same}
-use Rattle.lk_domain.proofs.queue.LockSwaps.{stands}
-use Rattle.lk_domain.proofs.queue.NodePlays.{acts', asks, calls_are, kept, planned}
-use Rattle.lk_domain.proofs.queue.OnNodes.{in_plan}
-use Rattle.lk_domain.proofs.words.Written.{IsBare, bare}
+use Rattle.lk_domain.proofs.{queue.NodePlays.planned, rows.Users.IsTrue}
+use Rattle.lk_domain.proofs.{words.LockPlays.{acting_any, acting_sole}, words.Written.IsBare}
+use Rattle.lk_domain.specs.{Calls.{grip_of, plain}, Keeps.{Keeps, Knows}, Plays.turned_of}
+use Rattle.lk_domain.specs.{Views.own_number, Words.kick_at}
+use Rattle.lk_pvdomain.proofs.Unmarked.{halt_off}
+use Rattle.lk_pvdomain.specs.PvPlays.{Halts, Wakes, Kicks, AtHalt, AtKick}
 use Rattle.lk_domain.proofs.rows.Fresh as fresh
 use Rattle.lk_domain.proofs.rows.Lands as lands
-use Rattle.lk_domain.proofs.rows.Sights.{IsSeen}
-use Rattle.lk_domain.proofs.words.LockPlays.{MayFree, acting_any, acting_sole}
-use Rattle.lk_pvdomain.specs.PvPlays.{Halts, Wakes, Kicks, woken, AtHalt, AtKick}
-use Rattle.lk_pvdomain.specs.PvRows.{halts_at}
 use Rattle.lk_pvdomain.proofs.OnMarks as on
-use Rattle.lk_pvdomain.proofs.Unmarked.{halt_off}
-use Rattle.lk_domain.proofs.rows.Users.{IsTrue}
-use Rattle.lk_law.specs.World.{World}
 
 halt_frees : (c : Pc) → halts_at c ≡ true → MayFree c → ⊥
 halt_frees W6 h t = cc t.3

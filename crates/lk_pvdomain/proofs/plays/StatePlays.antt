@@ -1,41 +1,21 @@
 -- What the steps on states ask.
-use Rattle.std.proofs.Common.{◌≡◌, ◌≢◌, ℕ, get_or, Option, Some, None, Bool, true, false}
-use Rattle.std.proofs.Common.{refl, sym, ap, ◌∙◌, subst, arith, eqb}
-use prog.Atomic.{either}
-use Rattle.std.specs.Prelude.{unwrap_or, if◌then◌else◌, ◌-◌, ◌==◌}
-use Rattle.atomic_table.specs.Table.{Me, keeps, Allows}
-use Rattle.lk_names.specs.declared.names.LockName.{LockName}
-use Rattle.lk_word.specs.declared.spin_word.NodeName.{NodeName}
-use Rattle.lk_rows.specs.declared.parts.State.{State}
-use Rattle.lk_rows.specs.declared.parts.State.TheVariants.{Running, Halted, Hashed}
-use Rattle.lk_rows.specs.declared.parts.Frame.{Frame}
-use Rattle.lk_rows.specs.declared.parts.Pc.{Pc}
-use Rattle.lk_rows.specs.declared.parts.Pc.TheVariants.{W2, W3, W5, W7, E1, E2, E10, K1}
-use Rattle.lk_rows.specs.declared.setup.Verb.{Verb}
-use Rattle.lk_rows.specs.Moves.{node_of}
-use Rattle.lk_rows.specs.Row.{Effect}
-use Rattle.lk_rows.specs.rows.Pv.{is_running, is_halted}
-use Rattle.lk_rows.specs.TopRow.{target}
-use Rattle.lk_law.specs.Agree.{halts}
-use Rattle.lk_law.specs.Leads.{Stated}
-use Rattle.lk_domain.specs.Calls.{StandsOn, grip_led, Frees}
-use Rattle.lk_domain.specs.Keeps.{Slot}
-use Rattle.lk_domain.specs.Plays.{went}
-use Rattle.lk_domain.specs.Runs.{Runs}
-use Rattle.lk_domain.specs.Stand.{Stand}
-use Rattle.lk_domain.specs.Views.{IsNumbered}
-use Rattle.lk_domain.specs.Words.{OfState, state_at, state_number, IsNode}
-use Rattle.lk_domain.specs.declared.plan.Plan.{Plan}
-use Rattle.lk_domain.specs.declared.view.View.{View}
-use Rattle.lk_domain.proofs.queue.NodePlays.{acts', asks, calls_are, kept}
+use Rattle.std.proofs.Common.{◌≡◌, ◌≢◌, ℕ, get_or, Option, Some, None, Bool, true, false, refl, sym}
+use Rattle.std.proofs.Common.{ap, ◌∙◌, subst, arith, eqb, if◌then◌else◌, ◌-◌, ◌==◌}
+use Rattle.std.specs.Prelude.{unwrap_or}
+use Rattle.lk_pvdomain.proofs.Names.{Allows, Me, keeps, either, NodeName, LockName, node_of, target}
+use Rattle.lk_pvdomain.proofs.Names.{Frame, Pc, E1, W7, State, Halted, Hashed, Verb, halts, Stated}
+use Rattle.lk_pvdomain.proofs.Names.{acts', asks, calls_are, kept, MayFree, bare, Frees, StandsOn}
+use Rattle.lk_pvdomain.proofs.Names.{Slot, went, Runs, Stand, IsNumbered, IsNode, OfState, state_at}
+use Rattle.lk_pvdomain.proofs.Names.{state_number, Plan, View, SeesState}
+use Rattle.lk_rows.specs.{Row.Effect, declared.parts.Pc.TheVariants.{W2, W3, W5, E2, E10, K1}}
+use Rattle.lk_rows.specs.{declared.parts.State.TheVariants.Running, rows.Pv.{is_running, is_halted}}
 use Rattle.lk_domain.proofs.rows.Changes.{IsAt}
-use Rattle.lk_domain.proofs.words.Written.{bare}
-use Rattle.lk_domain.proofs.words.LockPlays.{MayFree}
-use Rattle.lk_pvdomain.specs.PvPlays.{SeesState, AtState}
-use Rattle.lk_pvdomain.specs.PvRows.{on_state, looks_state, stores_own, state_told, rouses, roused_to, state_node}
+use Rattle.lk_domain.specs.Calls.{grip_led}
+use Rattle.lk_pvdomain.proofs.{OnStates.state_stores, Unmarked.state_off}
+use Rattle.lk_pvdomain.specs.PvPlays.{AtState}
+use Rattle.lk_pvdomain.specs.PvRows.{on_state, looks_state, stores_own, state_told, rouses}
+use Rattle.lk_pvdomain.specs.PvRows.{roused_to, state_node}
 use Rattle.lk_pvdomain.proofs.OnStates as on
-use Rattle.lk_pvdomain.proofs.OnStates.{state_stores}
-use Rattle.lk_pvdomain.proofs.Unmarked.{state_off}
 
 -- the row is on the state of its node
 pub on_its : (c : Pc) (f : Frame) → on_state c ≡ true → IsAt f (target c f) (OfState (state_node c f))

@@ -1,47 +1,29 @@
 -- The rows by which a call begins, steals the lock, or comes to the queue, where processors halt.
-use Rattle.std.proofs.Common.{◌≡◌, ◌≢◌, ℕ, ◌<◌, ◌+◌, eq-eqb, ne_eqb, Some, None, Bool, true, false, refl, sym, ap, subst, ◌∙◌, arith, [], ◌∷◌, length, List}
-use Rattle.std.specs.Prelude.{◌&&◌, not, is_some, if◌then◌else◌, ◌%◌}
-use Rattle.atomic_table.specs.Table.{Me}
-use Rattle.atomic_table.specs.Seated.{TableId}
-use Rattle.lk_names.specs.declared.names.Mode.{Mode}
-use Rattle.lk_names.specs.declared.names.Mode.TheVariants.{Virt, Native, Cna, Pv}
-use Rattle.lk_names.specs.declared.names.Kind.TheVariants.{Spin}
-use Rattle.lk_names.specs.declared.holder.Manner.TheVariants.{Spins}
-use Rattle.lk_word.specs.declared.spin_word.NodeName.{NodeName}
-use Rattle.lk_word.specs.declared.spin_word.Fields.{Fields}
-use Rattle.lk_rows.specs.declared.parts.Frame.{Frame}
-use Rattle.lk_rows.specs.declared.parts.Pc.{Pc}
-use Rattle.lk_rows.specs.declared.parts.Pc.TheVariants.{F1, T1, T2, G1, G4, G5, H1, H2, W1, E1}
-use Rattle.lk_rows.specs.declared.setup.Verb.{Verb}
-use Rattle.lk_rows.specs.declared.setup.Verb.TheVariants.{Lock, Try}
-use Rattle.lk_rows.specs.Moves.{first_place}
-use Rattle.lk_rows.specs.Programs.{kind_of}
-use Rattle.lk_rows.specs.rows.Pv.{after_glance}
-use Rattle.lk_rows.specs.rows.Spin.{is_free, is_unlocked}
-use Rattle.lk_law.specs.Agree.{halts}
-use Rattle.lk_law.specs.Families.{is_slow}
-use Rattle.lk_law.specs.Leads.{Met, Word, Number, Named}
-use Rattle.lk_law.specs.Sound.{takes_wait}
-use Rattle.lk_domain.specs.Calls.{Outlook, Unchanged, Takes, Mark, Terms, Running, Calls, lock_name, running, begun, begin, acting, is_on, slows, is_inner, MayBegin, holds_begun}
-use Rattle.lk_domain.specs.Keeps.{Slot}
-use Rattle.lk_domain.specs.NodePlays.{Arrives, AtRow, AtPrev, AtEntry, InCall, readied_by}
-use Rattle.lk_domain.specs.Paths.{Any, still}
-use Rattle.lk_domain.specs.Plans.{locks_of, turns_of, turns_by, kind_at}
-use Rattle.lk_domain.specs.Plays.{went, rowed, made, WentBy, MadeBy, Acts}
-use Rattle.lk_domain.specs.Rows.{arrives_by}
-use Rattle.lk_domain.specs.declared.part.Part.{Part}
-use Rattle.lk_domain.specs.declared.plan.Plan.{Plan}
-use Rattle.lk_domain.specs.declared.domain.Domain.{Domain}
-use Rattle.lk_domain.specs.declared.view.View.{View}
-use Rattle.lk_pvdomain.specs.PvPlays.{woken}
-use Rattle.lk_pvdomain.specs.PvPaths.{Start, starting, AtOn, HaltedOn, RestsOn, TookOn, EndedOn, Owns, Follows, Spares, Steals}
-use Rattle.lk_domain.proofs.Ways as seat
-use Rattle.lk_word.specs.declared.spin_word.Layout.{Layout}
+use Rattle.std.proofs.Common.{◌≡◌, ◌≢◌, ℕ, ◌<◌, ◌+◌, eq-eqb, ne_eqb, Some, None, Bool, true, false}
+use Rattle.std.proofs.Common.{refl, sym, ap, subst, ◌∙◌, arith, [], ◌∷◌, length, List, ◌&&◌, not}
+use Rattle.std.proofs.Common.{is_some, if◌then◌else◌, ◌%◌}
+use Rattle.lk_pvdomain.proofs.Names.{TableId, Me, Fields, Layout, NodeName, Spins, Mode, Cna}
+use Rattle.lk_pvdomain.proofs.Names.{Native, Pv, Virt, Frame, Pc, E1, G1, H2, W1, Verb, Lock, Try}
+use Rattle.lk_pvdomain.proofs.Names.{halts, Met, Named, Word, Calls, Mark, Outlook, Running, Takes}
+use Rattle.lk_pvdomain.proofs.Names.{Terms, Unchanged, acting, lock_name, running, Slot, AtEntry}
+use Rattle.lk_pvdomain.proofs.Names.{InCall, Any, locks_of, turns_by, turns_of, Acts, MadeBy}
+use Rattle.lk_pvdomain.proofs.Names.{WentBy, made, went, Domain, Plan, View, AtOn, EndedOn}
+use Rattle.lk_pvdomain.proofs.Names.{HaltedOn, Owns, Start, woken}
 use Rattle.lk_word.specs.SpinWord.{packed}
-use Rattle.lk_pvdomain.proofs.Fails.{steal_again, steal_failed}
-use Rattle.lk_pvdomain.proofs.ways.Ways.{Goes, Ends, moved_seat, moved_still, still_of, stays_at, stood, goes, ends, stands}
+use Rattle.lk_names.specs.declared.names.Kind.TheVariants.{Spin}
+use Rattle.lk_rows.specs.{Moves.first_place, Programs.kind_of}
+use Rattle.lk_rows.specs.declared.parts.Pc.TheVariants.{F1, T1, T2, G4, G5, H1}
+use Rattle.lk_rows.specs.{rows.Pv.after_glance, rows.Spin.{is_free, is_unlocked}}
+use Rattle.lk_law.specs.{Families.is_slow, Leads.Number, Sound.takes_wait}
+use Rattle.lk_domain.specs.Calls.{begun, begin, is_on, slows, is_inner, MayBegin, holds_begun}
+use Rattle.lk_domain.specs.{NodePlays.{Arrives, AtRow, AtPrev, readied_by}, Paths.still}
+use Rattle.lk_domain.specs.{Plans.kind_at, Plays.rowed, Rows.arrives_by, declared.part.Part.Part}
+use Rattle.lk_pvdomain.proofs.{Fails.{steal_again, steal_failed}, ways.Hands.plain}
 use Rattle.lk_pvdomain.proofs.ways.Leads.{un_off, un_on, acts, went_on}
-use Rattle.lk_pvdomain.proofs.ways.Hands.{plain}
+use Rattle.lk_pvdomain.proofs.ways.Ways.{Goes, Ends, moved_seat, moved_still, still_of, stays_at}
+use Rattle.lk_pvdomain.proofs.ways.Ways.{stood, goes, ends, stands}
+use Rattle.lk_pvdomain.specs.PvPaths.{starting, RestsOn, TookOn, Follows, Spares, Steals}
+use Rattle.lk_domain.proofs.Ways as seat
 
 free_by : (layout : Layout) (n : ℕ) (y : Fields) → n ≡ packed layout y → n ≡ 0 → is_free y ≡ true
 free_by layout n y is h = seat.is_zero layout n y is (eq-eqb n 0 h)

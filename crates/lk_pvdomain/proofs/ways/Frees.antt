@@ -1,46 +1,28 @@
 -- The rows of a release, where processors halt.
-use Rattle.std.proofs.Common.{inl, inr, ◌≡◌, ◌≢◌, ℕ, ◌<◌, ◌-◌, ◌/◌, ◌%◌, Some, None, Bool, true, false, refl, ap, subst, ◌∙◌, arith, [], ◌∷◌, ◌++◌, List, Option}
-use Rattle.std.proofs.Common.{append-nil, eqb, eq-eqb, sym}
-use Rattle.std.proofs.lemmas.Bool.{cases_Bool}
-use Rattle.std.specs.Prelude.{◌&&◌, if◌then◌else◌}
-use Rattle.atomic_table.specs.Table.{Me}
-use Rattle.atomic_table.specs.Seated.{TableId}
-use Rattle.lk_names.specs.Names.{same_lock}
-use Rattle.lk_names.specs.declared.names.LockName.{LockName}
-use Rattle.lk_names.specs.declared.names.Mode.{Mode}
-use Rattle.lk_names.specs.declared.names.Mode.TheVariants.{Virt, Native, Cna, Pv}
-use Rattle.lk_word.specs.declared.spin_word.NodeName.{NodeName}
-use Rattle.lk_word.specs.declared.spin_word.Fields.{Fields}
-use Rattle.lk_rows.specs.declared.parts.Frame.{Frame}
-use Rattle.lk_rows.specs.declared.parts.Pc.TheVariants.{U2, U3, U4, U5}
-use Rattle.lk_rows.specs.declared.setup.Verb.{Verb}
-use Rattle.lk_rows.specs.declared.setup.Verb.TheVariants.{Try, Unlock}
-use Rattle.lk_rows.specs.Moves.{first_place, node_of}
-use Rattle.lk_rows.specs.rows.Cna.{is_held}
-use Rattle.lk_law.specs.Agree.{halts}
-use Rattle.lk_law.specs.Leads.{Word, Named, Marked as MarkedMet}
-use Rattle.lk_law.proofs.common.Puts.{if_cases, if-true, if-false}
-use Rattle.lk_domain.specs.Calls.{Outlook, Terms, terms_of, sight_of, Mark, mark, lock_name, Grip, Frees, Unchanged, Takes, Hold, holds_in, free_of, moved_to}
-use Rattle.lk_domain.specs.Keeps.{AllHome, Slot}
-use Rattle.lk_domain.specs.Ledgers.{Ledger, Look, is_first, closed, opened, turned, listed_look}
-use Rattle.lk_domain.specs.Paths.{Any}
-use Rattle.lk_domain.specs.Plans.{locks_of}
-use Rattle.lk_domain.specs.Plays.{went, WentBy, MadeBy}
-use Rattle.lk_domain.specs.Words.{pair_number}
-use Rattle.lk_domain.specs.declared.domain.Domain.{Domain}
-use Rattle.lk_domain.specs.declared.view.View.{View}
-use Rattle.lk_domain.specs.declared.plan.TheConstants.{MOST_LOCKS}
-use Rattle.lk_pvdomain.specs.PvPaths.{Start, starting, AtOn, RestsOn, EndedOn, Kicks, freed, Took, Ended, first_of}
-use Rattle.lk_pvdomain.specs.PvPlays.{AtKick, EmptiesAt}
-use Rattle.atomic_table.specs.declared.shared.Seat.{Seat}
-use Rattle.lk_pvdomain.specs.PvCalls.{without}
-use Rattle.lk_pvdomain.specs.PvReleases.{found_at, kicked_from, kicked_in}
-use Rattle.lk_pvdomain.specs.PvRows.{tries_release}
+use Rattle.std.proofs.Common.{inl, inr, ◌≡◌, ◌≢◌, ℕ, ◌<◌, ◌-◌, ◌/◌, ◌%◌, Some, None, Bool, true}
+use Rattle.std.proofs.Common.{false, refl, ap, subst, ◌∙◌, arith, [], ◌∷◌, ◌++◌, List, Option}
+use Rattle.std.proofs.Common.{append-nil, eqb, eq-eqb, sym, ◌&&◌, if◌then◌else◌}
+use Rattle.lk_pvdomain.proofs.Names.{cases_Bool, TableId, Me, Seat, Fields, NodeName, same_lock}
+use Rattle.lk_pvdomain.proofs.Names.{LockName, Mode, Cna, Native, Pv, Virt, node_of, Frame, U3, U5}
+use Rattle.lk_pvdomain.proofs.Names.{Verb, Try, Unlock, is_held, if-false, halts, Named, Word}
+use Rattle.lk_pvdomain.proofs.Names.{Frees, Hold, Mark, Outlook, Takes, Terms, Unchanged, lock_name}
+use Rattle.lk_pvdomain.proofs.Names.{terms_of, AllHome, Slot, Ledger, is_first, turned, Any}
+use Rattle.lk_pvdomain.proofs.Names.{locks_of, MadeBy, WentBy, went, pair_number, Domain}
+use Rattle.lk_pvdomain.proofs.Names.{MOST_LOCKS, View, AtOn, Ended, EndedOn, Start, Took, first_of}
+use Rattle.lk_pvdomain.proofs.Names.{EmptiesAt, tries_release}
+use Rattle.lk_rows.specs.{Moves.first_place, declared.parts.Pc.TheVariants.{U2, U4}}
+use Rattle.lk_law.proofs.common.Puts.{if_cases, if-true}
+use Rattle.lk_law.specs.Leads.{Marked as MarkedMet}
 use Rattle.lk_domain.proofs.Freed.{released}
+use Rattle.lk_domain.specs.Calls.{sight_of, mark, Grip, holds_in, free_of, moved_to}
+use Rattle.lk_domain.specs.Ledgers.{Look, closed, opened, listed_look}
 use Rattle.lk_pvdomain.proofs.Fails.{release_again, release_failed}
-use Rattle.lk_pvdomain.proofs.ways.Ways.{Goes, Ends, goes, goes_trail, ends, last_is, yields, yields_trail, stands}
-use Rattle.lk_pvdomain.proofs.ways.Leads.{un_off, un_on}
 use Rattle.lk_pvdomain.proofs.ways.Arrives.{met, first, first_step, first_trail}
+use Rattle.lk_pvdomain.proofs.ways.Leads.{un_off, un_on}
+use Rattle.lk_pvdomain.proofs.ways.Ways.{Goes, Ends, goes, goes_trail, ends, last_is, yields}
+use Rattle.lk_pvdomain.proofs.ways.Ways.{yields_trail, stands}
+use Rattle.lk_pvdomain.specs.{PvCalls.without, PvPaths.{starting, RestsOn, Kicks, freed}}
+use Rattle.lk_pvdomain.specs.{PvPlays.AtKick, PvReleases.{found_at, kicked_from, kicked_in}}
 
 pub first_is : (m : Mode) → halts m ≡ true → first_place m Unlock ≡ U2
 first_is Pv h = refl

@@ -1,33 +1,17 @@
 -- The rows of a front that has the lock and hands the lead on.
-use Rattle.std.proofs.Common.{inr, ◌≡◌, ◌≢◌, ℕ, Option, Some, None, Bool, true, false, refl, sym, ap, ◌∙◌, arith}
-use Rattle.atomic_table.specs.Table.{Me}
-use Rattle.atomic_table.specs.Seated.{TableId}
-use Rattle.std.specs.Prelude.{◌&&◌, not}
-use Rattle.lk_names.specs.declared.holder.Manner.TheVariants.{Spins}
-use Rattle.lk_names.specs.declared.names.LockName.{LockName}
-use Rattle.lk_word.specs.declared.spin_word.NodeName.{NodeName}
-use Rattle.lk_word.specs.declared.spin_word.Fields.{Fields}
-use Rattle.lk_rows.specs.declared.parts.Flag.{Flag}
-use Rattle.lk_rows.specs.declared.parts.Flag.TheVariants.{Go, Unset}
-use Rattle.lk_rows.specs.declared.parts.State.{State}
-use Rattle.lk_rows.specs.declared.parts.State.TheVariants as state
-use Rattle.lk_rows.specs.declared.parts.Frame.{Frame}
-use Rattle.lk_rows.specs.declared.parts.Pc.TheVariants.{E13, E14, E15, K1, K2, K3}
-use Rattle.lk_rows.specs.declared.setup.Verb.{Verb}
-use Rattle.lk_rows.specs.Moves.{is_node, node_of}
-use Rattle.lk_rows.specs.rows.Cna.{is_held, is_last}
-use Rattle.lk_law.specs.Leads.{Word, Stated, Flagged, Named, Linked}
-use Rattle.lk_domain.specs.Calls.{Outlook, Terms, Takes, lock_name}
-use Rattle.lk_domain.specs.Keeps.{Slot}
-use Rattle.lk_domain.specs.NodePlays.{InCall, SeesLink}
-use Rattle.lk_domain.specs.NodeUses.{HandsTo, LooksBehind}
-use Rattle.lk_domain.specs.Plays.{went, WentBy}
-use Rattle.lk_domain.specs.Words.{state_number}
-use Rattle.lk_domain.specs.declared.domain.Domain.{Domain}
-use Rattle.lk_domain.specs.declared.view.View.{View}
-use Rattle.lk_pvdomain.specs.PvPaths.{Start, AtOn, TookOn, Owns, Precedes}
-use Rattle.lk_pvdomain.specs.PvPlays.{AtLast, SeesState}
+use Rattle.std.proofs.Common.{inr, ◌≡◌, ◌≢◌, ℕ, Option, Some, None, Bool, true, false, refl, sym}
+use Rattle.std.proofs.Common.{ap, ◌∙◌, arith, ◌&&◌, not}
+use Rattle.lk_pvdomain.proofs.Names.{TableId, Me, Fields, NodeName, Spins, LockName, is_node}
+use Rattle.lk_pvdomain.proofs.Names.{node_of, Frame, E13, State, Verb, is_held, Named, Stated, Word}
+use Rattle.lk_pvdomain.proofs.Names.{Outlook, Takes, Terms, lock_name, Slot, InCall, WentBy, went}
+use Rattle.lk_pvdomain.proofs.Names.{state_number, Domain, View, AtOn, Owns, Start, SeesState}
+use Rattle.lk_rows.specs.{declared.parts.Flag.Flag, declared.parts.Flag.TheVariants.{Go, Unset}}
+use Rattle.lk_rows.specs.{declared.parts.Pc.TheVariants.{E14, E15, K1, K2, K3}, rows.Cna.is_last}
+use Rattle.lk_law.specs.Leads.{Flagged, Linked}
+use Rattle.lk_domain.specs.{NodePlays.SeesLink, NodeUses.{HandsTo, LooksBehind}}
 use Rattle.lk_pvdomain.proofs.ways.Ways.{Goes, Ends, goes, ends, stands}
+use Rattle.lk_pvdomain.specs.{PvPaths.{TookOn, Precedes}, PvPlays.AtLast}
+use Rattle.lk_rows.specs.declared.parts.State.TheVariants as state
 
 -- where each leads
 module _ {t : Terms} {p : ℕ} {z : Outlook} (f : Frame) where

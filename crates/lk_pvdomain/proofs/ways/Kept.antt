@@ -1,21 +1,11 @@
 -- What a call leaves as it was of its processor: who it is, its slots, and where the journal is.
 use Rattle.std.proofs.Common.{◌≡◌, ◌∙◌, ℕ, Some, false, refl, sym, ap, subst, arith}
-use Rattle.atomic_table.specs.Table.{Me}
-use Rattle.atomic_table.specs.declared.shared.Seat.{Seat}
-use Rattle.lk_law.specs.Agree.{halts}
-use Rattle.lk_domain.specs.Keeps.{Slot}
-use Rattle.lk_domain.specs.Plays.{carried_of}
-use Rattle.lk_domain.specs.Who.{Who}
-use Rattle.lk_domain.specs.declared.view.View.{View}
+use Rattle.lk_pvdomain.proofs.Names.{Me, Seat, halts, Slot, IsSame, Who, Cpu, View, own_node}
+use Rattle.lk_pvdomain.proofs.Names.{first_node, PvDomain}
 use Rattle.lk_domain.proofs.seats.Places.{carried_same}
-use Rattle.lk_domain.specs.declared.cpu.Cpu.{Cpu}
-use Rattle.lk_pvdomain.specs.declared.domain.PvDomain.{PvDomain}
-use Rattle.lk_pvdomain.specs.PvCalls.{IsResting, own_node}
-use Rattle.lk_pvdomain.specs.PvPaths.{Rests, first_node}
-use Rattle.lk_domain.specs.Seats.{IsSame, calls_of}
-use Rattle.lk_pvdomain.specs.PvSeats.{IsOf}
-use Rattle.lk_pvdomain.proofs.PvSeating.{not_awake}
-use Rattle.lk_pvdomain.proofs.ways.Frees.{IsLet}
+use Rattle.lk_domain.specs.{Plays.carried_of, Seats.calls_of}
+use Rattle.lk_pvdomain.proofs.{PvSeating.not_awake, ways.Frees.IsLet}
+use Rattle.lk_pvdomain.specs.{PvCalls.IsResting, PvPaths.Rests, PvSeats.IsOf}
 
 -- a processor that is in no call
 pub rests_of : (d : PvDomain) (cpu : Cpu) → IsOf cpu d → IsResting (calls_of cpu) → Rests d.domain (own_node cpu) cpu.seat

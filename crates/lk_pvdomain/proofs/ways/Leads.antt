@@ -1,40 +1,23 @@
 -- The rows of a front that halts.
-use Rattle.std.proofs.Common.{◌≡◌, ◌≢◌, ℕ, ◌-◌, ◌≤◌, ◌%◌, Option, Some, None, Bool, true, false, eqb, eq-eqb, refl, sym, ap, ◌∙◌, arith}
+use Rattle.std.proofs.Common.{◌≡◌, ◌≢◌, ℕ, ◌-◌, ◌≤◌, ◌%◌, Option, Some, None, Bool, true, false}
+use Rattle.std.proofs.Common.{eqb, eq-eqb, refl, sym, ap, ◌∙◌, arith, ◌&&◌, not}
 use Rattle.std.proofs.lemmas.Bool.{ne_eqb}
-use Rattle.std.specs.Prelude.{◌&&◌, not}
-use Rattle.atomic_table.specs.Table.{Me}
-use Rattle.atomic_table.specs.Seated.{TableId}
-use Rattle.lk_word.specs.declared.spin_word.NodeName.{NodeName}
-use Rattle.lk_word.specs.declared.spin_word.Fields.{Fields}
-use Rattle.lk_word.specs.declared.spin_word.Locked.{Locked}
-use Rattle.lk_word.specs.declared.spin_word.Locked.TheVariants.{Free, Held, Slow}
-use Rattle.lk_word.specs.declared.spin_word.Layout.{Layout}
+use Rattle.lk_pvdomain.proofs.Names.{TableId, Me, Fields, Layout, Locked, Free, Held, Slow}
+use Rattle.lk_pvdomain.proofs.Names.{NodeName, Frame, Pc, E1, E9, E12, E13, State, Verb, Marked}
+use Rattle.lk_pvdomain.proofs.Names.{Met, Named, Stated, Word, acting_is, Calls, Outlook, Terms}
+use Rattle.lk_pvdomain.proofs.Names.{lock_name, Slot, InCall, turns_by, turns_of, Acts, MadeBy}
+use Rattle.lk_pvdomain.proofs.Names.{WentBy, made, went, state_number, Domain, View, AtOn, HaltedOn}
+use Rattle.lk_pvdomain.proofs.Names.{Owns, Start, EmptiesAt, SeesState, erases, fills}
 use Rattle.lk_word.specs.SpinWord.{packed, locked_number}
-use Rattle.lk_rows.specs.declared.parts.State.{State}
-use Rattle.lk_rows.specs.declared.parts.State.TheVariants as state
-use Rattle.lk_rows.specs.declared.parts.Frame.{Frame}
-use Rattle.lk_rows.specs.declared.parts.Pc.{Pc}
-use Rattle.lk_rows.specs.declared.parts.Pc.TheVariants.{E1, E2, E3, E4, E5, E6, E7, E8, E9, E10, E11, E12, E13}
-use Rattle.lk_rows.specs.declared.setup.Verb.{Verb}
-use Rattle.lk_rows.specs.rows.Pv.{is_slow_byte}
-use Rattle.lk_rows.specs.rows.Spin.{is_unlocked}
-use Rattle.lk_law.specs.Leads.{Met, Word, Stated, Marked, Named}
-use Rattle.lk_domain.specs.Calls.{Outlook, Terms, lock_name, Calls}
-use Rattle.lk_domain.specs.Keeps.{Slot}
-use Rattle.lk_domain.specs.Plans.{turns_of, turns_by}
-use Rattle.lk_domain.specs.Plays.{went, rowed, made, WentBy, MadeBy, Acts}
-use Rattle.lk_domain.specs.Words.{state_number}
-use Rattle.lk_domain.specs.declared.domain.Domain.{Domain}
-use Rattle.lk_domain.specs.declared.view.View.{View}
-use Rattle.lk_domain.proofs.Acting.{acting_is, acts_on, begins_on}
-use Rattle.lk_pvdomain.specs.PvPaths.{Start, AtOn, HaltedOn, Owns, Leads, Tries}
-use Rattle.lk_domain.specs.NodePlays.{InCall}
-use Rattle.lk_domain.specs.Uses.{UsesWord, uses}
+use Rattle.lk_rows.specs.declared.parts.Pc.TheVariants.{E2, E3, E4, E5, E6, E7, E8, E10, E11}
+use Rattle.lk_rows.specs.{rows.Pv.is_slow_byte, rows.Spin.is_unlocked}
+use Rattle.lk_domain.proofs.Acting.{acts_on, begins_on}
+use Rattle.lk_domain.specs.{Plays.rowed, Uses.{UsesWord, uses}}
 use Rattle.lk_domain.specs.declared.locks.moves.WordUse.{WordUse}
-use Rattle.lk_pvdomain.specs.PvPlays.{AtFill, AtSeek, SeesState, EmptiesAt}
-use Rattle.lk_pvdomain.specs.PvRows.{fills, filled_with, erases}
 use Rattle.lk_pvdomain.proofs.Fails.{low_byte, head_again, head_failed, steal_again, steal_failed}
 use Rattle.lk_pvdomain.proofs.ways.Ways.{Goes, goes, stands, rests}
+use Rattle.lk_pvdomain.specs.{PvPaths.{Leads, Tries}, PvPlays.{AtFill, AtSeek}, PvRows.filled_with}
+use Rattle.lk_rows.specs.declared.parts.State.TheVariants as state
 
 pub un_off : (b : Bool) → not b ≡ false → b ≡ true
 un_off true e = refl

@@ -1,32 +1,15 @@
 -- What a turn leaves as it was, and what is known where it leads.
-use Rattle.std.proofs.Common.{◌≡◌, ◌<◌, ℕ, Bool, true, false, Option, Some, None, refl, sym, ap, subst, ◌∙◌}
-use Rattle.atomic_table.specs.declared.shared.Seat.{Seat}
-use Rattle.lk_names.specs.declared.holder.Manner.TheVariants.{Spins}
-use Rattle.lk_word.specs.declared.spin_word.NodeName.{NodeName}
-use Rattle.lk_rows.specs.declared.parts.Frame.{Frame}
-use Rattle.lk_rows.specs.declared.parts.Pc.{Pc}
-use Rattle.lk_rows.specs.declared.parts.Pc.TheVariants.{G1}
-use Rattle.lk_rows.specs.declared.setup.Verb.TheVariants.{Lock}
-use Rattle.lk_domain.specs.Calls.{Takes}
-use Rattle.lk_domain.specs.Keeps.{Slot}
-use Rattle.lk_domain.specs.Ledgers.{Ledger}
-use Rattle.lk_domain.specs.Paths.{Any}
-use Rattle.lk_domain.specs.Plans.{locks_of}
+use Rattle.std.proofs.Common.{◌≡◌, ◌<◌, ℕ, Bool, true, false, Option, Some, None, refl, sym, ap}
+use Rattle.std.proofs.Common.{subst, ◌∙◌}
+use Rattle.lk_pvdomain.proofs.Names.{Seat, NodeName, Spins, Frame, Pc, G1, Lock, Takes, Slot}
+use Rattle.lk_pvdomain.proofs.Names.{Ledger, Any, locks_of, IsSame, Cpu, Domain, View, own_node}
+use Rattle.lk_pvdomain.proofs.Names.{AtOn, HaltedOn, Start, Took, first_of, Comes, PvDomain}
 use Rattle.lk_domain.specs.declared.domain.LockId.{LockId}
-use Rattle.lk_domain.specs.declared.domain.Domain.{Domain}
-use Rattle.lk_domain.specs.declared.view.View.{View}
-use Rattle.lk_domain.specs.declared.cpu.Cpu.{Cpu}
-use Rattle.lk_pvdomain.specs.declared.domain.PvDomain.{PvDomain}
-use Rattle.lk_pvdomain.specs.declared.rest.PvRest.{PvRest}
-use Rattle.lk_pvdomain.specs.declared.rest.PvRest.TheVariants as rest
+use Rattle.lk_pvdomain.proofs.{ways.Frees.out_kept, ways.Kept.IsKept}
+use Rattle.lk_pvdomain.specs.{PvPaths.At, PvRests.{Rests, is_asleep, is_asleep_at}}
+use Rattle.lk_pvdomain.specs.{PvTurns.{Waits, waiter_at}, declared.rest.PvRest.PvRest}
 use Rattle.lk_pvdomain.specs.declared.waiter.PvWaiter.{PvWaiter}
-use Rattle.lk_pvdomain.specs.PvCalls.{own_node}
-use Rattle.lk_pvdomain.specs.PvPaths.{Start, At, AtOn, HaltedOn, Took, first_of}
-use Rattle.lk_pvdomain.specs.PvRests.{Rests, Comes, is_asleep, is_asleep_at}
-use Rattle.lk_domain.specs.Seats.{IsSame}
-use Rattle.lk_pvdomain.specs.PvTurns.{Waits, waiter_at}
-use Rattle.lk_pvdomain.proofs.ways.Frees.{out_kept}
-use Rattle.lk_pvdomain.proofs.ways.Kept.{IsKept}
+use Rattle.lk_pvdomain.specs.declared.rest.PvRest.TheVariants as rest
 
 -- since a call began so: it is the same seat of the same processor, with the same slots, and the journal
 -- is where it was

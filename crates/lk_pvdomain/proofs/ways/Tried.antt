@@ -1,25 +1,13 @@
 -- A release whose first try met another word than that of a lock for which nobody waits.
 use Rattle.std.proofs.Common.{◌≡◌, ◌≢◌, ◌∙◌, ◌%◌, ℕ, inl, inr, None, refl, sym, ap, subst, arith}
-use Rattle.atomic_table.specs.declared.shared.Seat.{Seat}
-use Rattle.lk_word.specs.declared.spin_word.NodeName.{NodeName}
-use Rattle.lk_rows.specs.declared.parts.Pc.TheVariants.{U3}
-use Rattle.lk_rows.specs.declared.setup.Verb.TheVariants.{Unlock}
-use Rattle.lk_law.specs.Agree.{halts}
-use Rattle.lk_domain.specs.Calls.{Frees, lock_name}
-use Rattle.lk_domain.specs.Keeps.{Slot}
-use Rattle.lk_domain.specs.Paths.{Any}
-use Rattle.lk_domain.specs.Plays.{Acts, MadeBy}
-use Rattle.lk_domain.specs.declared.domain.Domain.{Domain}
-use Rattle.lk_domain.specs.declared.plan.Plan.{Plan}
-use Rattle.lk_domain.specs.declared.view.View.{View}
-use Rattle.lk_pvdomain.specs.PvCalls.{HasTried, MayFree}
-use Rattle.lk_pvdomain.specs.PvPaths.{At, Ended, Rests, Start, first_of}
-use Rattle.lk_pvdomain.specs.PvPlays.{TriedBy, release_fails}
-use Rattle.lk_pvdomain.specs.PvReleases.{kicked_in}
-use Rattle.lk_pvdomain.specs.PvRows.{tries_release}
+use Rattle.lk_pvdomain.proofs.Names.{Seat, NodeName, U3, Unlock, halts, Frees, lock_name, Slot, Any}
+use Rattle.lk_pvdomain.proofs.Names.{Acts, MadeBy, Domain, Plan, View, Ended, Start, first_of}
+use Rattle.lk_pvdomain.proofs.Names.{TriedBy, release_fails, tries_release}
 use Rattle.lk_pvdomain.proofs.Fails.{tried, release_failed, release_again}
 use Rattle.lk_pvdomain.proofs.ways.Arrives.{first_acts, is_spin}
 use Rattle.lk_pvdomain.proofs.ways.Frees.{first_tries, u2_frees, u2_kicks, u2_seeks}
+use Rattle.lk_pvdomain.specs.{PvCalls.{HasTried, MayFree}, PvPaths.{At, Rests}}
+use Rattle.lk_pvdomain.specs.PvReleases.{kicked_in}
 
 module _ {d : Domain} {l : ℕ} {own : NodeName} {s : Start} {met : ℕ} {b : Seat Slot View} (h : HasTried d l own s met b) where
   -- where the byte was not held, the first try is the row

@@ -1,32 +1,22 @@
 -- The rows of a waiter that halts.
-use Rattle.std.proofs.Common.{inr, ◌≡◌, ◌≢◌, ℕ, ◌-◌, ◌≤◌, Some, true, false, eqb, eq-eqb, refl, sym, ap, ◌∙◌, arith}
+use Rattle.std.proofs.Common.{inr, ◌≡◌, ◌≢◌, ℕ, ◌-◌, ◌≤◌, Some, true, false, eqb, eq-eqb, refl, sym}
+use Rattle.std.proofs.Common.{ap, ◌∙◌, arith}
 use Rattle.std.proofs.lemmas.Bool.{ne_eqb}
-use Rattle.atomic_table.specs.Table.{Me}
-use Rattle.atomic_table.specs.Seated.{TableId}
-use Rattle.lk_word.specs.declared.spin_word.NodeName.{NodeName}
+use Rattle.lk_pvdomain.proofs.Names.{TableId, Me, NodeName, node_of, Frame, Pc, E1, W1, W6, W7}
+use Rattle.lk_pvdomain.proofs.Names.{State, Halted, Hashed, Verb, Marked, Stated, Outlook, Terms}
+use Rattle.lk_pvdomain.proofs.Names.{lock_name, Slot, InCall, turns_by, turns_of, went}
+use Rattle.lk_pvdomain.proofs.Names.{state_number, Domain, View, AtOn, HaltedOn, Owns, Start}
+use Rattle.lk_pvdomain.proofs.Names.{SeesState, halts_at}
 use Rattle.lk_rows.specs.declared.parts.Flag.{Flag}
 use Rattle.lk_rows.specs.declared.parts.Flag.TheVariants.{Unset, Go, Second}
-use Rattle.lk_rows.specs.declared.parts.State.{State}
-use Rattle.lk_rows.specs.declared.parts.State.TheVariants.{Running, Halted, Hashed}
-use Rattle.lk_rows.specs.declared.parts.Frame.{Frame}
-use Rattle.lk_rows.specs.declared.parts.Pc.{Pc}
-use Rattle.lk_rows.specs.declared.parts.Pc.TheVariants.{W1, W2, W3, W4, W5, W6, W7, E1}
-use Rattle.lk_rows.specs.declared.setup.Verb.{Verb}
-use Rattle.lk_rows.specs.Moves.{node_of}
-use Rattle.lk_law.specs.Leads.{Flagged, Stated, Marked}
-use Rattle.lk_domain.specs.Calls.{Outlook, Terms, lock_name}
-use Rattle.lk_domain.specs.Keeps.{Slot}
-use Rattle.lk_domain.specs.NodePlays.{InCall, SeesFlag}
-use Rattle.lk_domain.specs.NodeUses.{LooksFlag, looks_flag}
-use Rattle.lk_domain.specs.Plays.{went}
-use Rattle.lk_domain.specs.Plans.{turns_of, turns_by}
-use Rattle.lk_domain.specs.declared.domain.Domain.{Domain}
-use Rattle.lk_domain.specs.declared.view.View.{View}
-use Rattle.lk_domain.specs.Words.{flag_number, state_number}
-use Rattle.lk_pvdomain.specs.PvPaths.{Start, AtOn, HaltedOn, Owns, Follows, Spares}
-use Rattle.lk_pvdomain.specs.PvPlays.{AtState, AtTold, AtHalt, SeesState}
-use Rattle.lk_pvdomain.specs.PvRows.{looks_state, stores_own, state_told, rouses, roused_to, state_node, halts_at}
+use Rattle.lk_rows.specs.declared.parts.Pc.TheVariants.{W2, W3, W4, W5}
+use Rattle.lk_rows.specs.declared.parts.State.TheVariants.{Running}
+use Rattle.lk_law.specs.Leads.{Flagged}
+use Rattle.lk_domain.specs.{NodePlays.SeesFlag, NodeUses.{LooksFlag, looks_flag}, Words.flag_number}
 use Rattle.lk_pvdomain.proofs.ways.Ways.{Goes, goes, stands, rests}
+use Rattle.lk_pvdomain.specs.{PvPaths.{Follows, Spares}, PvPlays.{AtState, AtTold, AtHalt}}
+use Rattle.lk_pvdomain.specs.PvRows.{looks_state, stores_own, state_told, rouses, roused_to}
+use Rattle.lk_pvdomain.specs.PvRows.{state_node}
 
 -- where each leads
 module _ {t : Terms} {p : ℕ} {z : Outlook} {own : NodeName} (f : Frame) where

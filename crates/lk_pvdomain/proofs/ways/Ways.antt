@@ -1,31 +1,19 @@
 -- What a step of a seat does to its call, where processors halt.
-use Rattle.std.proofs.Common.{◌≡◌, ℕ, ◌+◌, ◌<◌, List, [], ◌∷◌, ◌++◌, Some, None, true, false, refl, sym, ap, ◌∙◌, subst}
-use Rattle.atomic_table.specs.Table.{Me}
-use Rattle.atomic_table.specs.Seated.{TableId}
-use Rattle.lk_word.specs.declared.spin_word.NodeName.{NodeName}
-use Rattle.lk_rows.specs.Acts.{stands_halting, after_halt}
-use Rattle.lk_rows.specs.declared.parts.Frame.{Frame}
-use Rattle.lk_rows.specs.declared.parts.Pc.{Pc}
-use Rattle.lk_rows.specs.declared.setup.Verb.{Verb}
-use Rattle.lk_rows.specs.TopRow.{Halted, target}
-use Rattle.lk_law.specs.Leads.{Met, Marked, held_lock}
-use Rattle.lk_law.specs.Sound.{takes_wait}
-use Rattle.lk_domain.specs.Calls.{Outlook, Terms, terms_of, Mark, mark, Running, running, Hold, Calls, StandsOn, read_at, sight_of}
-use Rattle.lk_domain.specs.Calls.{row_of, halted_after}
-use Rattle.lk_domain.specs.Calls.{Grip, Unchanged, Takes, Frees, lock_name, holds_after, taken_after}
-use Rattle.lk_domain.specs.Keeps.{Slot}
-use Rattle.lk_domain.specs.Ledgers.{turned}
-use Rattle.lk_domain.specs.Paths.{next_frame, row_grip, awoken}
-use Rattle.lk_domain.specs.Plans.{locks_of}
-use Rattle.lk_domain.specs.Plays.{went, turned_of, turned_on, turned_at}
-use Rattle.lk_domain.specs.Standing.{Outside, IsAt}
-use Rattle.lk_domain.specs.Views.{own_number, IsNumbered}
-use Rattle.lk_domain.specs.Who.{Who}
-use Rattle.lk_domain.specs.declared.domain.Domain.{Domain}
-use Rattle.lk_domain.specs.declared.view.View.{View}
+use Rattle.std.proofs.Common.{◌≡◌, ℕ, ◌+◌, ◌<◌, List, [], ◌∷◌, ◌++◌, Some, None, true, false, refl}
+use Rattle.std.proofs.Common.{sym, ap, ◌∙◌, subst}
+use Rattle.lk_pvdomain.proofs.Names.{TableId, Me, NodeName, target, Frame, Pc, Verb, Marked, Met}
+use Rattle.lk_pvdomain.proofs.Names.{Calls, Frees, Hold, Mark, Outlook, Running, StandsOn, Takes}
+use Rattle.lk_pvdomain.proofs.Names.{Terms, Unchanged, lock_name, row_of, running, terms_of, Slot}
+use Rattle.lk_pvdomain.proofs.Names.{turned, locks_of, went, IsNumbered, Who, Domain, View, AtOn}
+use Rattle.lk_pvdomain.proofs.Names.{EndedOn, HaltedOn, Start, woken}
+use Rattle.lk_rows.specs.{Acts.{stands_halting, after_halt}, TopRow.Halted}
+use Rattle.lk_law.specs.{Leads.held_lock, Sound.takes_wait}
+use Rattle.lk_domain.specs.Calls.{mark, read_at, sight_of, halted_after, Grip, holds_after}
+use Rattle.lk_domain.specs.{Calls.taken_after, Paths.{next_frame, row_grip, awoken}}
+use Rattle.lk_domain.specs.{Plays.{turned_of, turned_on, turned_at}, Standing.{Outside, IsAt}}
+use Rattle.lk_domain.specs.Views.{own_number}
+use Rattle.lk_pvdomain.specs.{PvPaths.{IsSeat, IsStill, calls_at, freed}, PvPlays.stirred}
 use Rattle.lk_domain.proofs.Standing as path
-use Rattle.lk_pvdomain.specs.PvPaths.{Start, IsSeat, IsStill, AtOn, HaltedOn, EndedOn, calls_at, freed}
-use Rattle.lk_pvdomain.specs.PvPlays.{woken, stirred}
 
 -- where a row leads that goes on, and what its frame then is
 pub record Goes (t : Terms) (p : ℕ) (z : Outlook) (c : Pc) (f : Frame) (x : Met) (e : Pc) (Q : Frame → Type 0) : Type 0 where

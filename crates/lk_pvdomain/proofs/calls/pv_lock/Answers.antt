@@ -1,7 +1,5 @@
 use Rattle.std.proofs.Common.{ℕ, refl, subst}
-use Rattle.lk_rows.specs.declared.setup.Verb.TheVariants.{Lock}
-use Rattle.lk_pvdomain.specs.PvCalls.{own_node}
-use Rattle.lk_pvdomain.specs.PvPaths.{Took, first_node, first_of}
+use Rattle.lk_pvdomain.proofs.Names.{Lock, own_node, Took, first_node, first_of}
 use Rattle.lk_pvdomain.proofs.ways.Frees.{is_let}
 use Rattle.lk_pvdomain.proofs.ways.Kept.{rests_of, rests_as, kept_cpu, let_cpu, let_same, let_rests}
 use Rattle.lk_pvdomain.proofs.ways.Rested.{since_first, since_take, kept_since}

@@ -1,7 +1,5 @@
 use Rattle.std.proofs.Common.{ℕ, refl, subst}
-use Rattle.lk_rows.specs.declared.setup.Verb.TheVariants.{Try}
-use Rattle.lk_domain.specs.Calls.{Unchanged}
-use Rattle.lk_pvdomain.specs.PvPaths.{Ended, Took, first_node, first_of}
+use Rattle.lk_pvdomain.proofs.Names.{Try, Unchanged, Ended, Took, first_node, first_of}
 use Rattle.lk_pvdomain.proofs.ways.Frees.{is_tried}
 use Rattle.lk_pvdomain.proofs.ways.Kept.{rests_as, let_cpu, let_same, let_rests}
 use Rattle.lk_pvdomain.proofs.calls.pv_try_lock.Goals as goal

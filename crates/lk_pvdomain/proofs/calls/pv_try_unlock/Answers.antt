@@ -1,17 +1,9 @@
 use Rattle.std.proofs.Common.{◌≡◌, ℕ, Bool, true, false, refl, ap}
-use Rattle.atomic_table.specs.Table.{Me}
-use Rattle.atomic_table.specs.declared.shared.Seat.{Seat}
-use Rattle.lk_word.specs.declared.spin_word.NodeName.{NodeName}
-use Rattle.lk_rows.specs.declared.setup.Verb.TheVariants.{Unlock}
-use Rattle.lk_domain.specs.Calls.{Frees}
-use Rattle.lk_domain.specs.Keeps.{Slot}
-use Rattle.lk_domain.specs.declared.domain.Domain.{Domain}
-use Rattle.lk_domain.specs.declared.view.View.{View}
-use Rattle.lk_pvdomain.specs.PvCalls.{IsAsItWas, own_node}
-use Rattle.lk_pvdomain.specs.PvPaths.{Ended, first_of}
-use Rattle.lk_pvdomain.specs.PvReleases.{has_freed}
+use Rattle.lk_pvdomain.proofs.Names.{Me, Seat, NodeName, Unlock, Frees, Slot, Domain, View}
+use Rattle.lk_pvdomain.proofs.Names.{own_node, Ended, first_of}
 use Rattle.lk_pvdomain.proofs.ways.Frees.{is_let, freed_none, freed_others}
 use Rattle.lk_pvdomain.proofs.ways.Kept.{IsKept, rests_of, kept_cpu, let_rests}
+use Rattle.lk_pvdomain.specs.{PvCalls.IsAsItWas, PvReleases.has_freed}
 use Rattle.lk_pvdomain.proofs.calls.pv_try_unlock.Goals as goal
 
 pub try_unlock-requires : goal.try_unlock-requires

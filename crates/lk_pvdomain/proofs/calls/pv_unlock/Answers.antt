@@ -1,7 +1,5 @@
 use Rattle.std.proofs.Common.{refl}
-use Rattle.lk_rows.specs.declared.setup.Verb.TheVariants.{Unlock}
-use Rattle.lk_pvdomain.specs.PvCalls.{own_node}
-use Rattle.lk_pvdomain.specs.PvPaths.{first_of}
+use Rattle.lk_pvdomain.proofs.Names.{Unlock, own_node, first_of}
 use Rattle.lk_pvdomain.proofs.ways.Frees.{is_let, freed_none, freed_others}
 use Rattle.lk_pvdomain.proofs.ways.Kept.{rests_of, let_cpu, let_same, let_rests}
 use Rattle.lk_pvdomain.proofs.calls.pv_unlock.Goals as goal

@@ -1,8 +1,8 @@
 use Rattle.std.proofs.Common.{◌≡◌, ◌∙◌, Err, sym, ap}
 use Rattle.std.specs.declared.result.Result.{Result}
 use Rattle.lk_domain.specs.declared.ending.Closed.{Closed}
-use Rattle.lk_pvdomain.specs.declared.ending.PvBack.{PvBack}
 use Rattle.lk_pvdomain.proofs.PvSeating.{one_domain}
+use Rattle.lk_pvdomain.specs.declared.ending.PvBack.{PvBack}
 use Rattle.lk_pvdomain.proofs.ending.pv_close.Goals as goal
 
 same_back : {x y : PvBack} → ◌≡◌ {A = Result Closed PvBack} (Err x) (Err y) → x ≡ y

@@ -1,14 +1,10 @@
 use Rattle.std.proofs.Common.{List, Some, refl, sym, subst, ap, ◌∙◌, ◌<◌, arith}
-use Rattle.lk_domain.specs.Calls.{Frees, Hold, lock_name}
-use Rattle.lk_domain.specs.Ledgers.{Ledger}
-use Rattle.lk_domain.specs.Values.{out_in}
+use Rattle.lk_pvdomain.proofs.Names.{Frees, Hold, lock_name, Ledger, cpus_of, out_in, IsNode, Plan}
 use Rattle.lk_domain.proofs.Outs.{freed_out}
-use Rattle.lk_domain.specs.Plans.{cpus_of}
-use Rattle.lk_domain.specs.Words.{IsNode}
-use Rattle.lk_domain.specs.declared.plan.Plan.{Plan}
 use Rattle.lk_domain.specs.declared.locks.moves.WordUse.TheVariants.{Drops}
+use Rattle.lk_pvdomain.proofs.ways.Frees.{u3_finds, u4_frees, u5_kicks, kick_asks, out_kept}
+use Rattle.lk_pvdomain.proofs.ways.Frees.{pair_cpu, freed_once, kicked}
 use Rattle.lk_pvdomain.proofs.ways.Leads.{word_asks, seek_asks}
-use Rattle.lk_pvdomain.proofs.ways.Frees.{u3_finds, u4_frees, u5_kicks, kick_asks, out_kept, pair_cpu, freed_once, kicked}
 use Rattle.lk_pvdomain.proofs.freeing.kick_next.Goals as goal
 
 pub take_out-pair-requires : goal.take_out-pair-requires

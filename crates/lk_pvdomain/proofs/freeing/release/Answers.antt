@@ -1,17 +1,9 @@
 use Rattle.std.proofs.Common.{◌≡◌, ◌∙◌, List, sym, ap, subst, true, false, None}
-use Rattle.atomic_table.specs.Table.{Me}
-use Rattle.lk_rows.specs.declared.setup.Verb.TheVariants.{Unlock}
-use Rattle.lk_domain.specs.Calls.{Hold, lock_name}
-use Rattle.lk_domain.specs.Keeps.{Slot}
-use Rattle.lk_domain.specs.Ledgers.{Ledger, is_first}
-use Rattle.lk_domain.specs.Plays.{Acts}
-use Rattle.lk_domain.specs.Values.{out_in}
-use Rattle.lk_domain.specs.declared.view.View.{View}
+use Rattle.lk_pvdomain.proofs.Names.{Me, Unlock, Hold, lock_name, Slot, Ledger, is_first, Acts}
+use Rattle.lk_pvdomain.proofs.Names.{out_in, View, first_of, tries_release}
 use Rattle.lk_domain.proofs.Outs.{moved_out}
-use Rattle.lk_pvdomain.specs.PvPaths.{first_of}
-use Rattle.lk_pvdomain.specs.PvRows.{tries_release}
-use Rattle.lk_pvdomain.proofs.ways.Ways.{moved_seat}
-use Rattle.lk_pvdomain.proofs.ways.Tried.{first_tries_on, seeks, stays, began, frees_then, seeks_then}
+use Rattle.lk_pvdomain.proofs.ways.Tried.{first_tries_on, seeks, stays, began, frees_then}
+use Rattle.lk_pvdomain.proofs.{ways.Tried.seeks_then, ways.Ways.moved_seat}
 use Rattle.lk_pvdomain.proofs.freeing.release.Goals as goal
 
 pub wake_next-requires : goal.wake_next-requires

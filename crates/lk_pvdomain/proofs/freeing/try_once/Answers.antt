@@ -1,20 +1,11 @@
 use Rattle.std.proofs.Common.{◌≡◌, ◌≢◌, ◌∙◌, ◌%◌, List, inl, inr, sym, ap, subst, true, false, None}
 use Rattle.std.proofs.lemmas.Bool.{true≢false}
-use Rattle.atomic_table.specs.Table.{Me}
-use Rattle.lk_rows.specs.declared.setup.Verb.TheVariants.{Unlock}
-use Rattle.lk_domain.specs.Calls.{Hold, lock_name}
-use Rattle.lk_domain.specs.Keeps.{Slot}
-use Rattle.lk_domain.specs.Ledgers.{Ledger, is_first}
-use Rattle.lk_domain.specs.Plays.{Acts}
-use Rattle.lk_domain.specs.Values.{out_in}
-use Rattle.lk_domain.specs.declared.view.View.{View}
+use Rattle.lk_pvdomain.proofs.Names.{Me, Unlock, Hold, lock_name, Slot, Ledger, is_first, Acts}
+use Rattle.lk_pvdomain.proofs.Names.{out_in, View, first_of, release_fails, tries_release}
 use Rattle.lk_domain.proofs.Outs.{moved_out}
-use Rattle.lk_pvdomain.specs.PvPaths.{first_of}
-use Rattle.lk_pvdomain.specs.PvPlays.{release_fails}
-use Rattle.lk_pvdomain.specs.PvRows.{tries_release}
 use Rattle.lk_pvdomain.proofs.Fails.{tried, release_failed, release_again}
-use Rattle.lk_pvdomain.proofs.ways.Ways.{moved_seat}
-use Rattle.lk_pvdomain.proofs.ways.Tried.{first_tries_on, seeks, stays, began, frees_then, kicks_then, seeks_then}
+use Rattle.lk_pvdomain.proofs.ways.Tried.{first_tries_on, seeks, stays, began, frees_then}
+use Rattle.lk_pvdomain.proofs.{ways.Tried.{kicks_then, seeks_then}, ways.Ways.moved_seat}
 use Rattle.lk_pvdomain.proofs.freeing.try_once.Goals as goal
 
 pub kick_next-kicked-requires : goal.kick_next-kicked-requires

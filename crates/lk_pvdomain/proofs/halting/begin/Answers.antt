@@ -1,5 +1,4 @@
-use Rattle.lk_rows.specs.declared.setup.Verb.TheVariants.{Lock}
-use Rattle.lk_pvdomain.specs.PvPaths.{first_node, first_of}
+use Rattle.lk_pvdomain.proofs.Names.{Lock, first_node, first_of}
 use Rattle.lk_pvdomain.proofs.halting.begin.Goals as goal
 
 pub take-requires : goal.take-requires

@@ -1,10 +1,6 @@
-use Rattle.std.proofs.Common.{refl, ap}
-use Rattle.lk_domain.specs.Calls.{waits_in}
-use Rattle.lk_domain.specs.Rows.{is_take}
-use Rattle.lk_rows.specs.declared.setup.Verb.TheVariants.{Lock}
-use Rattle.lk_domain.specs.Calls.{Running}
-use Rattle.std.proofs.Common.{List}
-use Rattle.lk_domain.proofs.Seating.{table_of}
+use Rattle.std.proofs.Common.{refl, ap, List}
+use Rattle.lk_pvdomain.proofs.Names.{Lock, table_of, Running}
+use Rattle.lk_domain.specs.{Calls.waits_in, Rows.is_take}
 use Rattle.lk_pvdomain.proofs.ways.Arrives.{first_acts, is_spin, f1_takes, f1_goes}
 use Rattle.lk_pvdomain.proofs.halting.take.Goals as goal
 

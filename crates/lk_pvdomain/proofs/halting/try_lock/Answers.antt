@@ -1,11 +1,8 @@
 use Rattle.std.proofs.Common.{refl, ap, List}
-use Rattle.lk_domain.specs.Calls.{Running, waits_in}
-use Rattle.lk_domain.specs.Rows.{is_look, is_take}
-use Rattle.lk_rows.specs.declared.setup.Verb.TheVariants.{Try}
-use Rattle.lk_domain.proofs.Seating.{table_of}
-use Rattle.lk_pvdomain.proofs.ways.Ways.{numbered}
-use Rattle.lk_pvdomain.proofs.ways.Leads.{acts}
-use Rattle.lk_pvdomain.proofs.ways.Arrives.{first_acts, is_spin, t1_sees, t1_misses, t2_takes, t2_misses}
+use Rattle.lk_pvdomain.proofs.Names.{Try, table_of, Running}
+use Rattle.lk_domain.specs.{Calls.waits_in, Rows.{is_look, is_take}}
+use Rattle.lk_pvdomain.proofs.ways.Arrives.{first_acts, is_spin, t1_sees, t1_misses, t2_takes}
+use Rattle.lk_pvdomain.proofs.{ways.Arrives.t2_misses, ways.Leads.acts, ways.Ways.numbered}
 use Rattle.lk_pvdomain.proofs.halting.try_lock.Goals as goal
 
 pub look_once-requires : goal.look_once-requires

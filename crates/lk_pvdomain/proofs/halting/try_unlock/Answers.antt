@@ -1,7 +1,6 @@
 use Rattle.std.proofs.Common.{refl}
 use Rattle.std.proofs.lemmas.Bool.{true≢false}
-use Rattle.lk_rows.specs.declared.setup.Verb.TheVariants.{Unlock}
-use Rattle.lk_pvdomain.specs.PvPaths.{first_of}
+use Rattle.lk_pvdomain.proofs.Names.{Unlock, first_of}
 use Rattle.lk_pvdomain.proofs.ways.Tried.{first_tries_on, with_rests, has_tried, frees, kicks_none}
 use Rattle.lk_pvdomain.proofs.halting.try_unlock.Goals as goal
 

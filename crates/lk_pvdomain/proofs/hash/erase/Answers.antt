@@ -1,9 +1,6 @@
 use Rattle.std.proofs.Common.{arith, subst, ◌∙◌}
-use Rattle.lk_names.specs.declared.names.LockName.{LockName}
-use Rattle.lk_domain.specs.Calls.{running}
-use Rattle.lk_pvdomain.specs.PvPlays.{EmptiesAt}
+use Rattle.lk_pvdomain.proofs.Names.{LockName, far_words, running, EmptiesAt}
 use Rattle.lk_pvdomain.proofs.OnSeeks.{erase_asks}
-use Rattle.lk_domain.proofs.words.Written.{far_words}
 use Rattle.lk_pvdomain.proofs.hash.erase.Goals as goal
 
 pub swap-met-requires : goal.swap-met-requires

@@ -1,6 +1,6 @@
 use Rattle.std.proofs.Common.{arith, ◌∙◌}
+use Rattle.lk_pvdomain.proofs.Names.{far_words}
 use Rattle.lk_pvdomain.proofs.OnHash.{fill_asks}
-use Rattle.lk_domain.proofs.words.Written.{far_words}
 use Rattle.lk_pvdomain.proofs.hash.fill.Goals as goal
 
 pub compare_exchange-met-requires : goal.compare_exchange-met-requires

@@ -1,6 +1,5 @@
 use Rattle.std.proofs.Common.{◌≡◌, ◌<◌, Option}
-use Rattle.lk_word.specs.declared.spin_word.NodeName.{NodeName}
-use Rattle.lk_domain.specs.Words.{places_of}
+use Rattle.lk_pvdomain.proofs.Names.{NodeName, places_of}
 use Rattle.lk_pvdomain.specs.PvPlays.{looked_at}
 use Rattle.lk_pvdomain.proofs.hash.find.Given as goal
 

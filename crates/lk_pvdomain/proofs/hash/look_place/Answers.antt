@@ -1,9 +1,7 @@
 use Rattle.std.proofs.Common.{arith, subst, ◌∙◌}
-use Rattle.lk_names.specs.declared.names.LockName.{LockName}
-use Rattle.lk_domain.specs.Calls.{running}
-use Rattle.lk_pvdomain.specs.PvPlays.{SeesPlace}
+use Rattle.lk_pvdomain.proofs.Names.{LockName, far_words, running}
 use Rattle.lk_pvdomain.proofs.OnSeeks.{look_asks}
-use Rattle.lk_domain.proofs.words.Written.{far_words}
+use Rattle.lk_pvdomain.specs.PvPlays.{SeesPlace}
 use Rattle.lk_pvdomain.proofs.hash.look_place.Goals as goal
 
 pub load-met-requires : goal.load-met-requires

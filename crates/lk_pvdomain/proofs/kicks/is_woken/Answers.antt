@@ -1,4 +1,4 @@
-use Rattle.std.proofs.lemmas.Bool.{eqb-true, eqb-false}
+use Rattle.lk_pvdomain.proofs.Names.{eqb-false, eqb-true}
 use Rattle.lk_pvdomain.proofs.ways.Leads.{un_off, un_on}
 use Rattle.lk_pvdomain.proofs.kicks.is_woken.Goals as goal
 

@@ -1,6 +1,6 @@
 use Rattle.std.proofs.Common.{arith, ◌∙◌}
+use Rattle.lk_pvdomain.proofs.Names.{far_words}
 use Rattle.lk_pvdomain.proofs.plays.MarkPlays.{wake_asks}
-use Rattle.lk_domain.proofs.words.Written.{far_words}
 use Rattle.lk_pvdomain.proofs.kicks.wake.Goals as goal
 
 pub swap-met-requires : goal.swap-met-requires

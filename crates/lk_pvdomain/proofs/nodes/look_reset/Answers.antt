@@ -1,10 +1,7 @@
 use Rattle.std.proofs.Common.{sym, refl, ◌∙◌, arith}
-use mathlib.Core.Option.{none}
-use Rattle.atomic_table.specs.Table.{step}
-use Rattle.lk_domain.specs.NodePlays.{Readies}
-use Rattle.lk_domain.specs.Words.{node_at}
-use Rattle.lk_domain.proofs.words.NodeWords.{low}
-use Rattle.lk_domain.proofs.queue.NodeAsks.{reset_one}
+use Rattle.lk_pvdomain.proofs.Names.{step, none}
+use Rattle.lk_domain.proofs.{queue.NodeAsks.reset_one, words.NodeWords.low}
+use Rattle.lk_domain.specs.{NodePlays.Readies, Words.node_at}
 use Rattle.lk_pvdomain.proofs.Spared.{spared}
 use Rattle.lk_pvdomain.proofs.nodes.look_reset.Goals as goal
 

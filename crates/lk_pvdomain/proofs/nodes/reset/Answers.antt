@@ -1,12 +1,7 @@
 use Rattle.std.proofs.Common.{◌≡◌, ◌≢◌, ◌∙◌, sym, ap, subst}
-use Rattle.atomic_table.specs.Table.{Me}
-use Rattle.lk_domain.specs.Keeps.{Slot}
-use Rattle.lk_domain.specs.NodePlays.{AtEntry, InCall, readied_by}
-use Rattle.lk_domain.specs.Views.{IsNumbered}
-use Rattle.lk_domain.specs.Words.{part_index}
+use Rattle.lk_pvdomain.proofs.Names.{Me, table_of, Slot, AtEntry, InCall, IsNumbered, View}
+use Rattle.lk_domain.specs.{NodePlays.readied_by, Words.part_index}
 use Rattle.lk_domain.specs.declared.part.Part.TheVariants as part_is
-use Rattle.lk_domain.specs.declared.view.View.{View}
-use Rattle.lk_domain.proofs.Seating.{table_of}
 use Rattle.lk_pvdomain.proofs.nodes.reset.Goals as goal
 
 pub returns-then-look_reset-eq0-clause-step : goal.returns-then-look_reset-eq0-clause-step

@@ -1,6 +1,5 @@
 use Rattle.std.proofs.Common.{refl, ap, ◌∙◌}
-use Rattle.lk_domain.specs.Who.{Who}
-use Rattle.lk_domain.proofs.Seating.{seat_in, table_of}
+use Rattle.lk_pvdomain.proofs.Names.{seat_in, table_of, Who}
 use Rattle.lk_pvdomain.proofs.PvSeating.{not_awake}
 use Rattle.lk_pvdomain.proofs.pages.pv_load.Goals as goal
 

@@ -1,10 +1,8 @@
 use Rattle.std.proofs.Common.{ℕ, refl, sym, subst, ◌∙◌}
-use Rattle.lk_rows.specs.declared.setup.Verb.TheVariants.{Lock}
-use Rattle.lk_pvdomain.specs.PvCalls.{own_node}
-use Rattle.lk_pvdomain.specs.PvPaths.{first_node, first_of}
-use Rattle.lk_pvdomain.specs.PvRests.{Comes}
+use Rattle.lk_pvdomain.proofs.Names.{Lock, own_node, first_node, first_of, Comes}
 use Rattle.lk_pvdomain.proofs.ways.Kept.{rests_as, kept_cpu}
-use Rattle.lk_pvdomain.proofs.ways.Rested.{since_comes, since_first, asleep_comes, kept_since, same_since, waits_of, lock_of}
+use Rattle.lk_pvdomain.proofs.ways.Rested.{since_comes, since_first, asleep_comes, kept_since}
+use Rattle.lk_pvdomain.proofs.ways.Rested.{same_since, waits_of, lock_of}
 use Rattle.lk_pvdomain.proofs.polled.pv_begin.Goals as goal
 
 pub begin-place-requires : goal.begin-place-requires

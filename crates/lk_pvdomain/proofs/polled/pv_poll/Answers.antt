@@ -1,9 +1,9 @@
 use Rattle.std.proofs.Common.{ℕ, refl, sym, subst, ◌∙◌}
-use Rattle.lk_pvdomain.specs.PvCalls.{own_node}
-use Rattle.lk_pvdomain.specs.PvPaths.{Start, first_node}
-use Rattle.lk_pvdomain.specs.PvRests.{Comes, Rests}
+use Rattle.lk_pvdomain.proofs.Names.{own_node, Start, first_node, Comes}
 use Rattle.lk_pvdomain.proofs.ways.Kept.{kept_cpu}
-use Rattle.lk_pvdomain.proofs.ways.Rested.{since_rests, since_comes, asleep_comes, kept_since, same_since, waits_of, lock_of}
+use Rattle.lk_pvdomain.proofs.ways.Rested.{since_rests, since_comes, asleep_comes, kept_since}
+use Rattle.lk_pvdomain.proofs.ways.Rested.{same_since, waits_of, lock_of}
+use Rattle.lk_pvdomain.specs.PvRests.{Rests}
 use Rattle.lk_pvdomain.proofs.polled.pv_poll.Goals as goal
 
 pub turn-place-requires : goal.turn-place-requires

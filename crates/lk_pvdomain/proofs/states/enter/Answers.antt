@@ -1,8 +1,5 @@
 use Rattle.std.proofs.Common.{◌≡◌, ◌∙◌, sym, ap, subst}
-use Rattle.atomic_table.specs.Table.{Me}
-use Rattle.lk_domain.specs.Keeps.{Slot}
-use Rattle.lk_domain.specs.NodePlays.{AtEntry, Enters, InCall}
-use Rattle.lk_domain.specs.declared.view.View.{View}
+use Rattle.lk_pvdomain.proofs.Names.{Me, Slot, AtEntry, Enters, InCall, View}
 use Rattle.lk_pvdomain.proofs.ways.Ways.{moved_seat}
 use Rattle.lk_pvdomain.proofs.states.enter.Goals as goal
 

@@ -1,8 +1,6 @@
 use Rattle.std.proofs.Common.{arith, ◌∙◌}
-use Rattle.lk_domain.specs.NodePlays.{Enters}
-use Rattle.lk_pvdomain.proofs.PvEntries.{enter_asks}
-use Rattle.lk_pvdomain.proofs.Spared.{spared}
-use Rattle.lk_domain.proofs.words.Written.{far_words}
+use Rattle.lk_pvdomain.proofs.Names.{far_words, Enters}
+use Rattle.lk_pvdomain.proofs.{PvEntries.enter_asks, Spared.spared}
 use Rattle.lk_pvdomain.proofs.states.look_entry.Goals as goal
 
 pub load-met-requires : goal.load-met-requires

@@ -1,6 +1,6 @@
 use Rattle.std.proofs.Common.{arith, ◌∙◌}
+use Rattle.lk_pvdomain.proofs.Names.{far_words}
 use Rattle.lk_pvdomain.proofs.plays.StatePlays.{look_on}
-use Rattle.lk_domain.proofs.words.Written.{far_words}
 use Rattle.lk_pvdomain.proofs.states.look_state.Goals as goal
 
 pub load-met-requires : goal.load-met-requires

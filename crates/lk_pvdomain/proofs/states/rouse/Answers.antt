@@ -1,7 +1,6 @@
 use Rattle.std.proofs.Common.{arith, ap, ◌∙◌}
-use Rattle.lk_domain.specs.Words.{state_number}
+use Rattle.lk_pvdomain.proofs.Names.{far_words, state_number}
 use Rattle.lk_pvdomain.proofs.plays.StatePlays.{rouse_on}
-use Rattle.lk_domain.proofs.words.Written.{far_words}
 use Rattle.lk_pvdomain.proofs.states.rouse.Goals as goal
 
 pub compare_exchange-met-requires : goal.compare_exchange-met-requires

@@ -1,9 +1,8 @@
 use Rattle.std.proofs.Common.{◌≡◌, ◌⊎◌, inl, inr, ◌∙◌, true, subst, sym}
-use Rattle.lk_rows.specs.declared.setup.Verb.TheVariants.{Unlock}
-use Rattle.lk_domain.specs.Plays.{MadeBy}
-use Rattle.lk_pvdomain.specs.PvPlays.{release_fails}
+use Rattle.lk_pvdomain.proofs.Names.{Unlock, MadeBy, release_fails}
 use Rattle.lk_pvdomain.proofs.Fails.{tried, release_failed, release_again}
-use Rattle.lk_pvdomain.proofs.tries.release.Goals.{then-met-expected-via-then-met-expected, then-met-expected-via-else-met-expected+then-low_byte-ne-HELD}
+use Rattle.lk_pvdomain.proofs.tries.release.Goals.{then-met-expected-via-then-met-expected}
+use Rattle.lk_pvdomain.proofs.tries.release.Goals.{then-met-expected-via-else-met-expected+then-low_byte-ne-HELD}
 use Rattle.lk_pvdomain.proofs.tries.release.Goals as goal
 
 pub returns-then-met-expected-clause-step : goal.returns-then-met-expected-clause-step

@@ -1,6 +1,5 @@
 use Rattle.std.proofs.Common.{arith, refl, ◌-◌}
-use mathlib.Core.Option.{none}
-use Rattle.atomic_table.specs.Table.{step}
+use Rattle.lk_pvdomain.proofs.Names.{step, none}
 use Rattle.lk_pvdomain.proofs.PvSwaps.{head_told}
 use Rattle.lk_pvdomain.proofs.tries.try_head.Goals as goal
 

@@ -1,5 +1,5 @@
 use Rattle.std.proofs.Common.{◌+◌, ap, arith}
-use Rattle.lk_domain.specs.Calls.{lock_name}
+use Rattle.lk_pvdomain.proofs.Names.{lock_name}
 use Rattle.lk_pvdomain.proofs.Quits.{quit_asks}
 use Rattle.lk_pvdomain.proofs.words.quit.Goals as goal
 

@@ -1,8 +1,9 @@
 use Rattle.std.proofs.Common.{refl, subst}
+use Rattle.lk_pvdomain.proofs.Names.{At}
 use Rattle.lk_rows.specs.declared.parts.Pc.TheVariants.{E5}
 use Rattle.lk_domain.specs.declared.locks.moves.WordUse.TheVariants.{Clears}
-use Rattle.lk_pvdomain.specs.PvWords.{At, Leads}
 use Rattle.lk_pvdomain.proofs.ways.Leads.{word_asks, e5_hashed, e5_else}
+use Rattle.lk_pvdomain.specs.PvWords.{Leads}
 use Rattle.lk_pvdomain.proofs.call.Queued.clear_pending.Goals as goal
 
 pub go_on-requires : goal.go_on-requires

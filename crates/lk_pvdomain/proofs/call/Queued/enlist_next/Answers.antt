@@ -1,7 +1,5 @@
 use Rattle.std.proofs.Common.{refl}
-use Rattle.lk_pvdomain.proofs.ways.Leads.{fill_asks}
-use Rattle.lk_pvdomain.proofs.ways.Arrives.{kept}
-use Rattle.lk_pvdomain.proofs.ways.Hands.{k3_leaves}
+use Rattle.lk_pvdomain.proofs.{ways.Arrives.kept, ways.Hands.k3_leaves, ways.Leads.fill_asks}
 use Rattle.lk_pvdomain.proofs.call.Queued.enlist_next.Goals as goal
 
 pub put_in-requires : goal.put_in-requires

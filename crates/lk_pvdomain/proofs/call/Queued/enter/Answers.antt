@@ -1,9 +1,7 @@
 use Rattle.std.proofs.Common.{refl, ap}
-use Rattle.atomic_table.specs.Table.{Me}
-use Rattle.lk_domain.specs.Keeps.{Slot}
-use Rattle.lk_domain.specs.declared.view.View.{View}
-use Rattle.lk_domain.specs.declared.part.Part.TheVariants as part
+use Rattle.lk_pvdomain.proofs.Names.{Me, Slot, View}
 use Rattle.lk_pvdomain.proofs.ways.Arrives.{entry_asks, readied, g1_enters}
+use Rattle.lk_domain.specs.declared.part.Part.TheVariants as part
 use Rattle.lk_pvdomain.proofs.call.Queued.enter.Goals as goal
 
 pub reset-requires : goal.reset-requires

@@ -1,6 +1,5 @@
 use Rattle.std.proofs.Common.{refl}
-use Rattle.lk_pvdomain.proofs.ways.Leads.{fill_asks, e6_enters}
-use Rattle.lk_pvdomain.proofs.ways.Arrives.{kept}
+use Rattle.lk_pvdomain.proofs.{ways.Arrives.kept, ways.Leads.{fill_asks, e6_enters}}
 use Rattle.lk_pvdomain.proofs.call.Queued.enter_hash.Goals as goal
 
 pub put_in-requires : goal.put_in-requires

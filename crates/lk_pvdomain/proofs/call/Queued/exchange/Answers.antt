@@ -1,13 +1,9 @@
 use Rattle.std.proofs.Common.{◌≡◌, Some, refl, sym, subst, ap, ◌∙◌, IfSome}
-use Rattle.lk_word.specs.SpinWord.{packed, IsPackable}
-use Rattle.lk_word.specs.declared.spin_word.Fields.{Fields}
-use Rattle.lk_word.specs.declared.spin_word.NodeName.{NodeName}
-use Rattle.lk_domain.specs.Plans.{layout_in}
-use Rattle.lk_domain.specs.Words.{IsNode}
-use Rattle.lk_domain.specs.declared.plan.Plan.{Plan}
-use Rattle.lk_domain.proofs.Seating.{table_of}
-use Rattle.lk_pvdomain.proofs.ways.Ways.{numbered}
+use Rattle.lk_pvdomain.proofs.Names.{IsPackable, Fields, NodeName, table_of, layout_in, IsNode}
+use Rattle.lk_pvdomain.proofs.Names.{Plan}
+use Rattle.lk_word.specs.SpinWord.{packed}
 use Rattle.lk_pvdomain.proofs.ways.Arrives.{kept, tail_asks, g4_first, g4_behind}
+use Rattle.lk_pvdomain.proofs.ways.Ways.{numbered}
 use Rattle.lk_pvdomain.proofs.call.Queued.exchange.Goals as goal
 
 pub exchange_tail-met-requires : goal.exchange_tail-met-requires

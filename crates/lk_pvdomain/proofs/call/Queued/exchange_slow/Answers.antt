@@ -1,5 +1,5 @@
 use Rattle.std.proofs.Common.{refl, sym, ◌∙◌}
-use Rattle.std.proofs.lemmas.Bool.{eqb-true, eqb-false}
+use Rattle.lk_pvdomain.proofs.Names.{eqb-false, eqb-true}
 use Rattle.lk_domain.specs.declared.locks.moves.WordUse.TheVariants.{Slows}
 use Rattle.lk_pvdomain.proofs.ways.Leads.{word_asks, e7_takes, e7_else}
 use Rattle.lk_pvdomain.proofs.call.Queued.exchange_slow.Goals as goal

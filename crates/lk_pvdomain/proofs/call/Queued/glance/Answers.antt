@@ -1,14 +1,9 @@
-use Rattle.std.proofs.Common.{refl, sym, subst, ap, ◌∙◌, Some}
-use Rattle.std.specs.Prelude.{is_some}
-use Rattle.lk_word.specs.SpinWord.{packed, IsPackable}
-use Rattle.lk_word.specs.declared.spin_word.Fields.{Fields}
+use Rattle.std.proofs.Common.{refl, sym, subst, ap, ◌∙◌, Some, is_some}
+use Rattle.lk_pvdomain.proofs.Names.{IsPackable, Fields, layout_in, Plan, At, Steals}
+use Rattle.lk_word.specs.SpinWord.{packed}
 use Rattle.lk_rows.specs.rows.Pv.{after_glance}
-use Rattle.lk_domain.specs.Plans.{layout_in}
-use Rattle.lk_domain.specs.declared.plan.Plan.{Plan}
 use Rattle.lk_domain.specs.declared.locks.moves.WordUse.TheVariants.{Looks}
-use Rattle.lk_pvdomain.specs.PvWords.{At, Steals}
-use Rattle.lk_pvdomain.proofs.ways.Leads.{word_asks}
-use Rattle.lk_pvdomain.proofs.ways.Arrives.{h1_looks}
+use Rattle.lk_pvdomain.proofs.{ways.Arrives.h1_looks, ways.Leads.word_asks}
 use Rattle.lk_pvdomain.proofs.call.Queued.glance.Goals as goal
 
 pub go_on-met-requires : goal.go_on-met-requires

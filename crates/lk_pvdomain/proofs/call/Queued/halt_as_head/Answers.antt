@@ -1,6 +1,5 @@
 use Rattle.std.proofs.Common.{refl}
-use Rattle.lk_pvdomain.proofs.ways.Waits.{halt_asks}
-use Rattle.lk_pvdomain.proofs.ways.Leads.{e12_halts}
+use Rattle.lk_pvdomain.proofs.{ways.Leads.e12_halts, ways.Waits.halt_asks}
 use Rattle.lk_pvdomain.proofs.call.Queued.halt_as_head.Goals as goal
 
 pub halt-requires : goal.halt-requires

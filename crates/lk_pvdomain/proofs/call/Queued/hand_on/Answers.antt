@@ -1,6 +1,5 @@
-use Rattle.lk_domain.proofs.Seating.{table_of}
-use Rattle.lk_pvdomain.proofs.ways.Ways.{numbered}
-use Rattle.lk_pvdomain.proofs.ways.Hands.{hand_asks, e15_hands}
+use Rattle.lk_pvdomain.proofs.Names.{table_of}
+use Rattle.lk_pvdomain.proofs.{ways.Hands.{hand_asks, e15_hands}, ways.Ways.numbered}
 use Rattle.lk_pvdomain.proofs.call.Queued.hand_on.Goals as goal
 
 pub hand-requires : goal.hand-requires

@@ -1,11 +1,6 @@
-use Rattle.std.proofs.Common.{sym, subst, ap, ◌∙◌}
-use Rattle.std.specs.Prelude.{◌&&◌, not}
-use Rattle.lk_word.specs.SpinWord.{packed, IsPackable}
-use Rattle.lk_word.specs.declared.spin_word.Fields.{Fields}
-use Rattle.lk_rows.specs.Moves.{is_node}
-use Rattle.lk_rows.specs.rows.Cna.{is_held}
-use Rattle.lk_domain.specs.Plans.{layout_in}
-use Rattle.lk_domain.specs.declared.plan.Plan.{Plan}
+use Rattle.std.proofs.Common.{sym, subst, ap, ◌∙◌, ◌&&◌, not}
+use Rattle.lk_pvdomain.proofs.Names.{IsPackable, Fields, is_node, is_held, layout_in, Plan}
+use Rattle.lk_word.specs.SpinWord.{packed}
 use Rattle.lk_pvdomain.proofs.ways.Hands.{last_asks, e13_leaves, e13_stays}
 use Rattle.lk_pvdomain.proofs.call.Queued.leave_queue.Goals as goal
 

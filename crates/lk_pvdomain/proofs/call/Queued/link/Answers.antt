@@ -1,6 +1,5 @@
-use Rattle.lk_domain.proofs.Seating.{table_of}
-use Rattle.lk_pvdomain.proofs.ways.Ways.{numbered}
-use Rattle.lk_pvdomain.proofs.ways.Arrives.{link_asks, g5_links}
+use Rattle.lk_pvdomain.proofs.Names.{table_of}
+use Rattle.lk_pvdomain.proofs.{ways.Arrives.{link_asks, g5_links}, ways.Ways.numbered}
 use Rattle.lk_pvdomain.proofs.call.Queued.link.Goals as goal
 
 pub link-requires : goal.link-requires

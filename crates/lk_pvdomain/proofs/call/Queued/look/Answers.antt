@@ -1,6 +1,5 @@
 use Rattle.std.proofs.Common.{sym, subst, ◌∙◌}
-use Rattle.lk_rows.specs.declared.parts.Pc.TheVariants.{H2}
-use Rattle.lk_pvdomain.specs.PvWords.{At, Steals}
+use Rattle.lk_pvdomain.proofs.Names.{H2, At, Steals}
 use Rattle.lk_pvdomain.proofs.ways.Arrives.{steals, looks_again, joins}
 use Rattle.lk_pvdomain.proofs.call.Queued.look.Goals as goal
 

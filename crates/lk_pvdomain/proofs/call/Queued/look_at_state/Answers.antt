@@ -1,7 +1,6 @@
 use Rattle.std.proofs.Common.{refl}
-use Rattle.std.proofs.lemmas.Bool.{eqb-true, eqb-false}
-use Rattle.lk_pvdomain.proofs.ways.Waits.{mine, look_asks}
-use Rattle.lk_pvdomain.proofs.ways.Leads.{e1_hashed, e1_else}
+use Rattle.lk_pvdomain.proofs.Names.{eqb-false, eqb-true}
+use Rattle.lk_pvdomain.proofs.{ways.Leads.{e1_hashed, e1_else}, ways.Waits.{mine, look_asks}}
 use Rattle.lk_pvdomain.proofs.call.Queued.look_at_state.Goals as goal
 
 pub look_state-requires : goal.look_state-requires

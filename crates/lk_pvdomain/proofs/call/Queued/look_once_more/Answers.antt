@@ -1,9 +1,7 @@
 use Rattle.std.proofs.Common.{refl}
-use Rattle.std.proofs.lemmas.Bool.{eqb-true, eqb-false}
-use Rattle.lk_domain.proofs.Seating.{table_of}
+use Rattle.lk_pvdomain.proofs.Names.{eqb-false, eqb-true, table_of}
+use Rattle.lk_pvdomain.proofs.{ways.Leads.{un_off, un_on}, ways.Waits.{flag_asks, w4_set, w4_unset}}
 use Rattle.lk_pvdomain.proofs.ways.Ways.{numbered}
-use Rattle.lk_pvdomain.proofs.ways.Waits.{flag_asks, w4_set, w4_unset}
-use Rattle.lk_pvdomain.proofs.ways.Leads.{un_off, un_on}
 use Rattle.lk_pvdomain.proofs.call.Queued.look_once_more.Goals as goal
 
 pub look_flag-requires : goal.look_flag-requires

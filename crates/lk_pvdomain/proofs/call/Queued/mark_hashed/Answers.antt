@@ -1,7 +1,6 @@
 use Rattle.std.proofs.Common.{refl}
-use Rattle.std.proofs.lemmas.Bool.{eqb-true, eqb-false}
-use Rattle.lk_pvdomain.proofs.ways.Waits.{rouse_asks}
-use Rattle.lk_pvdomain.proofs.ways.Hands.{next_node, k1_leaves, k1_signs}
+use Rattle.lk_pvdomain.proofs.Names.{eqb-false, eqb-true}
+use Rattle.lk_pvdomain.proofs.{ways.Hands.{next_node, k1_leaves, k1_signs}, ways.Waits.rouse_asks}
 use Rattle.lk_pvdomain.proofs.call.Queued.mark_hashed.Goals as goal
 
 pub rouse-requires : goal.rouse-requires

@@ -1,6 +1,6 @@
 use Rattle.std.proofs.Common.{sym, subst}
-use Rattle.lk_rows.specs.declared.parts.Pc.TheVariants.{W1}
-use Rattle.lk_pvdomain.specs.PvWords.{At, Spares}
+use Rattle.lk_pvdomain.proofs.Names.{W1, At}
+use Rattle.lk_pvdomain.specs.PvWords.{Spares}
 use Rattle.lk_pvdomain.proofs.call.Queued.queue.Goals as goal
 
 pub head-requires : goal.head-requires

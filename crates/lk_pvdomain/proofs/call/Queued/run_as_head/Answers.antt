@@ -1,6 +1,5 @@
 use Rattle.std.proofs.Common.{refl}
-use Rattle.lk_pvdomain.proofs.ways.Waits.{mine, told_asks}
-use Rattle.lk_pvdomain.proofs.ways.Leads.{e2_runs}
+use Rattle.lk_pvdomain.proofs.{ways.Leads.e2_runs, ways.Waits.{mine, told_asks}}
 use Rattle.lk_pvdomain.proofs.call.Queued.run_as_head.Goals as goal
 
 pub store_state-requires : goal.store_state-requires

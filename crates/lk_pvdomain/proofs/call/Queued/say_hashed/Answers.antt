@@ -1,6 +1,5 @@
 use Rattle.std.proofs.Common.{refl}
-use Rattle.lk_pvdomain.proofs.ways.Waits.{mine, told_asks}
-use Rattle.lk_pvdomain.proofs.ways.Leads.{e10_tells}
+use Rattle.lk_pvdomain.proofs.{ways.Leads.e10_tells, ways.Waits.{mine, told_asks}}
 use Rattle.lk_pvdomain.proofs.call.Queued.say_hashed.Goals as goal
 
 pub store_state-requires : goal.store_state-requires

@@ -1,7 +1,6 @@
 use Rattle.std.proofs.Common.{refl}
 use Rattle.lk_domain.specs.declared.locks.moves.WordUse.TheVariants.{Signs}
-use Rattle.lk_pvdomain.proofs.ways.Leads.{word_asks}
-use Rattle.lk_pvdomain.proofs.ways.Hands.{k2_signs}
+use Rattle.lk_pvdomain.proofs.{ways.Hands.k2_signs, ways.Leads.word_asks}
 use Rattle.lk_pvdomain.proofs.call.Queued.store_slow.Goals as goal
 
 pub go_on-requires : goal.go_on-requires

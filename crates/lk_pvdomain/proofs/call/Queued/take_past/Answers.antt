@@ -1,12 +1,8 @@
 use Rattle.std.proofs.Common.{◌≢◌, ◌%◌, inl, inr, refl, sym, subst, arith, ◌∙◌}
-use Rattle.lk_rows.specs.declared.parts.Pc.TheVariants.{H2}
-use Rattle.lk_rows.specs.declared.setup.Verb.TheVariants.{Lock}
-use Rattle.lk_pvdomain.specs.PvPlays.{steal_fails}
-use Rattle.lk_pvdomain.specs.PvRows.{tries_steal}
-use Rattle.lk_pvdomain.specs.PvWords.{At, Steals}
+use Rattle.lk_pvdomain.proofs.Names.{H2, Lock, steal_fails, At, Steals}
 use Rattle.lk_pvdomain.proofs.Fails.{tried, steal_failed, steal_again}
-use Rattle.lk_pvdomain.proofs.ways.Leads.{acts}
-use Rattle.lk_pvdomain.proofs.ways.Arrives.{kept, h2_takes, h2_again, h2_joins}
+use Rattle.lk_pvdomain.proofs.{ways.Arrives.{kept, h2_takes, h2_again, h2_joins}, ways.Leads.acts}
+use Rattle.lk_pvdomain.specs.PvRows.{tries_steal}
 use Rattle.lk_pvdomain.proofs.call.Queued.take_past.Goals as goal
 
 pub try_steal-met-requires : goal.try_steal-met-requires

@@ -1,11 +1,8 @@
 use Rattle.std.proofs.Common.{inl, inr, refl, sym, arith, ◌∙◌}
-use Rattle.std.proofs.lemmas.Bool.{eqb-true, eqb-false}
-use Rattle.lk_rows.specs.declared.setup.Verb.TheVariants.{Lock}
-use Rattle.lk_pvdomain.specs.PvPlays.{head_fails}
-use Rattle.lk_pvdomain.specs.PvRows.{tries_head}
-use Rattle.lk_pvdomain.proofs.Fails.{tried, head_failed, head_again}
+use Rattle.lk_pvdomain.proofs.Names.{eqb-false, eqb-true, Lock, head_fails}
+use Rattle.lk_pvdomain.proofs.{Fails.{tried, head_failed, head_again}, ways.Arrives.kept}
 use Rattle.lk_pvdomain.proofs.ways.Leads.{acts, e4_takes, e4_last, e4_again}
-use Rattle.lk_pvdomain.proofs.ways.Arrives.{kept}
+use Rattle.lk_pvdomain.specs.PvRows.{tries_head}
 use Rattle.lk_pvdomain.proofs.call.Queued.take_pending.Goals as goal
 
 pub look_head-seen-requires : goal.look_head-seen-requires

@@ -1,5 +1,5 @@
 use Rattle.std.proofs.Common.{refl, sym, ◌∙◌}
-use Rattle.std.proofs.lemmas.Bool.{eqb-true, eqb-false}
+use Rattle.lk_pvdomain.proofs.Names.{eqb-false, eqb-true}
 use Rattle.lk_domain.specs.declared.locks.moves.WordUse.TheVariants.{Looks}
 use Rattle.lk_pvdomain.proofs.ways.Leads.{word_asks, e11_slow, e11_else}
 use Rattle.lk_pvdomain.proofs.call.Queued.test_slow.Goals as goal

@@ -1,5 +1,5 @@
 use Rattle.std.proofs.Common.{refl}
-use Rattle.std.proofs.lemmas.Bool.{eqb-true, eqb-false}
+use Rattle.lk_pvdomain.proofs.Names.{eqb-false, eqb-true}
 use Rattle.lk_pvdomain.proofs.ways.Waits.{mine, look_asks, w5_halted, w5_else}
 use Rattle.lk_pvdomain.proofs.call.Queued.test_state.Goals as goal
 

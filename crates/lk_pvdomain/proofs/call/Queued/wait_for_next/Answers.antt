@@ -1,9 +1,6 @@
 use Rattle.std.proofs.Common.{sym, subst, ◌∙◌, IfSome}
-use Rattle.lk_domain.specs.Words.{IsNode}
-use Rattle.lk_domain.specs.declared.plan.Plan.{Plan}
-use Rattle.lk_domain.proofs.Seating.{table_of}
-use Rattle.lk_pvdomain.proofs.ways.Ways.{numbered}
-use Rattle.lk_pvdomain.proofs.ways.Hands.{behind_asks, e14_waits, e14_sees}
+use Rattle.lk_pvdomain.proofs.Names.{table_of, IsNode, Plan}
+use Rattle.lk_pvdomain.proofs.{ways.Hands.{behind_asks, e14_waits, e14_sees}, ways.Ways.numbered}
 use Rattle.lk_pvdomain.proofs.call.Queued.wait_for_next.Goals as goal
 
 pub look_next-requires : goal.look_next-requires

@@ -1,5 +1,5 @@
 use Rattle.std.proofs.Common.{subst}
-use Rattle.lk_pvdomain.specs.PvRests.{Comes}
+use Rattle.lk_pvdomain.proofs.Names.{Comes}
 use Rattle.lk_pvdomain.proofs.call.Queued.wait_on.Goals as goal
 
 pub give_way-requires : goal.give_way-requires

@@ -1,6 +1,5 @@
-use Rattle.lk_pvdomain.specs.PvWords.{Any, At, Rests}
-use Rattle.lk_rows.specs.declared.parts.Pc.TheVariants.{G1}
-use Rattle.lk_pvdomain.specs.PvPaths.{Start}
+use Rattle.lk_pvdomain.proofs.Names.{G1, Start, At}
+use Rattle.lk_pvdomain.specs.PvWords.{Any, Rests}
 use Rattle.lk_pvdomain.proofs.call.Queued.wait_on.Given as goal
 
 abbrev pub invariant-loop : goal.invariant-loop

@@ -1,6 +1,5 @@
 use Rattle.std.proofs.Common.{refl}
-use Rattle.lk_pvdomain.proofs.ways.Arrives.{woke, sleeps_on}
-use Rattle.lk_pvdomain.proofs.ways.Ways.{moved_seat}
+use Rattle.lk_pvdomain.proofs.{ways.Arrives.{woke, sleeps_on}, ways.Ways.moved_seat}
 use Rattle.lk_pvdomain.proofs.call.Queued.wake.Goals as goal
 
 pub is_woken-requires : goal.is_woken-requires

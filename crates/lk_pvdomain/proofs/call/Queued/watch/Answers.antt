@@ -1,5 +1,5 @@
-use Rattle.std.proofs.lemmas.Bool.{leb-true, leb-false}
 use Rattle.std.proofs.Common.{refl, arith}
+use Rattle.std.proofs.lemmas.Bool.{leb-true, leb-false}
 use Rattle.lk_pvdomain.proofs.ways.Waits.{before, look_asks, w2_stops, w2_last, w2_again}
 use Rattle.lk_pvdomain.proofs.call.Queued.watch.Goals as goal
 
