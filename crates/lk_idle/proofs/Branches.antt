@@ -1,10 +1,6 @@
 -- Where the branches of a row lead.
-use Rattle.std.proofs.Common.{ℕ, Bool, true, false, List}
-use Rattle.std.specs.Prelude.{if◌then◌else◌}
-use Rattle.lk_rows.specs.declared.parts.Frame.{Frame}
-use Rattle.lk_rows.specs.declared.parts.Pc.{Pc}
-use Rattle.lk_rows.specs.Row.{Change, Effect, Goes}
-use Rattle.lk_idle.specs.declared.lives.Lives.{Lives}
+use Rattle.std.proofs.Common.{ℕ, Bool, true, false, List, if◌then◌else◌}
+use Rattle.lk_idle.proofs.Names.{Change, Effect, Goes, Frame, Pc, Lives}
 use Rattle.lk_idle.proofs.Leading.{LeadsFine}
 
 -- where the row leads, what does not live is not read

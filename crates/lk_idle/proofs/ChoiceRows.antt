@@ -1,16 +1,11 @@
 -- Where the rows of a head lead that chooses its successor.
-use Rattle.std.proofs.Common.{ℕ, true, Option, Some, None, refl}
-use Rattle.std.specs.Prelude.{is_some}
-use Rattle.lk_word.specs.declared.spin_word.NodeName.{NodeName}
-use Rattle.lk_word.specs.declared.spin_word.Fields.{Fields}
-use Rattle.lk_rows.specs.declared.parts.Frame.{Frame}
-use Rattle.lk_rows.specs.declared.parts.Pc.TheVariants.{C1, C2, C3, C10}
-use Rattle.lk_rows.specs.declared.parts.Why.{Why}
-use Rattle.lk_rows.specs.declared.parts.Why.TheVariants as why
-use Rattle.lk_rows.specs.rows.Cna.{Sight, may_stay, after_none, search_row, second_row, promotion_row, is_last}
-use Rattle.lk_idle.specs.declared.lives.Lives.{Lives}
-use Rattle.lk_idle.specs.Lives.{second_lives, tail_lives}
+use Rattle.std.proofs.Common.{ℕ, true, Option, Some, None, refl, is_some}
+use Rattle.lk_idle.proofs.Names.{Fields, NodeName, Frame, C1, C2, C3, C10, Why, promotion_row}
+use Rattle.lk_idle.proofs.Names.{search_row, second_row, second_lives, Lives}
+use Rattle.lk_rows.specs.rows.Cna.{Sight, may_stay, after_none, is_last}
 use Rattle.lk_idle.proofs.Branches.{Fine, pick}
+use Rattle.lk_idle.specs.Lives.{tail_lives}
+use Rattle.lk_rows.specs.declared.parts.Why.TheVariants as why
 
 -- those that live while it passes over waiters, and at the end
 abbrev pub passing_lives : Lives

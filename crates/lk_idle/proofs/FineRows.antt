@@ -1,37 +1,31 @@
 -- Where each row leads, what does not live is not read.
 use Rattle.std.proofs.Common.{ℕ, Some, refl}
-use Rattle.lk_rows.specs.declared.parts.Pc.TheVariants.{F1, T1, T2, U1, V1, V2, P0, P1, P2, P3}
-use Rattle.lk_rows.specs.declared.parts.Pc.TheVariants.{P4, G1, G2, G3, G4, G5, G6, G7, G8, G9}
-use Rattle.lk_rows.specs.declared.parts.Pc.TheVariants.{G10, G11, N1, N2, C1, C2, C3, C4, C5, C6}
-use Rattle.lk_rows.specs.declared.parts.Pc.TheVariants.{C7, C8, C9, C10, H1, H2, W1, W2, W3, W4}
-use Rattle.lk_rows.specs.declared.parts.Pc.TheVariants.{W5, W6, W7, E1, E2, E3, E4, E5, E6, E7}
-use Rattle.lk_rows.specs.declared.parts.Pc.TheVariants.{E8, E9, E10, E11, E12, E13, E14, E15, K1, K2}
-use Rattle.lk_rows.specs.declared.parts.Pc.TheVariants.{K3, U2, U3, U4, U5, R1, R2, R3, R4, R5}
-use Rattle.lk_rows.specs.declared.parts.Pc.TheVariants.{Wr1, Wr2, Wr3, Wr4, Wr5, Wr6, Y1, Y2, Y3, Y4}
-use Rattle.lk_rows.specs.declared.parts.Pc.TheVariants.{Y5, Z1, Z2}
-use Rattle.lk_rows.specs.declared.parts.Frame.{Frame}
-use Rattle.lk_rows.specs.declared.parts.Pc.{Pc}
-use Rattle.lk_rows.specs.Machine.{Machine, word_at, rw_at, node_at, queued_at, entry_at, halted_at, kicked_at}
-use Rattle.lk_rows.specs.Moves.{node_of}
-use Rattle.lk_rows.specs.rows.Spin.{spin_row}
-use Rattle.lk_rows.specs.rows.Queue.{queue_row, entry_row, flag_row, next_row}
-use Rattle.lk_rows.specs.rows.Cna.{search_row, second_row, runs_row, handover_row, promotion_row}
-use Rattle.lk_rows.specs.rows.Pv.{pv_row, pv_flag_row, pv_next_row, state_row, hash_row, halt_row, kick_row}
-use Rattle.lk_rows.specs.rows.Rw.{rw_row}
+use Rattle.lk_idle.proofs.Names.{Machine, node_of, sight_at, target, Frame, Pc, C1, C2, C3, C4, C5}
+use Rattle.lk_idle.proofs.Names.{C6, C7, C8, C9, C10, E4, E5, E7, E11, E12, E13, E14, E15, F1, G2}
+use Rattle.lk_idle.proofs.Names.{G3, G4, G5, G6, G7, G8, G9, G10, G11, H1, H2, K1, N1, N2, P0, P1}
+use Rattle.lk_idle.proofs.Names.{P3, R1, R2, R5, T1, T2, U2, V1, V2, W1, W2, W4, W5, W6, W7, Wr1}
+use Rattle.lk_idle.proofs.Names.{Wr2, Wr3, Wr5, Wr6, Y1, Y2, Y4, Y5, handover_row, promotion_row}
+use Rattle.lk_idle.proofs.Names.{runs_row, search_row, second_row, halt_row, hash_row, kick_row}
+use Rattle.lk_idle.proofs.Names.{pv_flag_row, pv_next_row, pv_row, state_row, entry_row, flag_row}
+use Rattle.lk_idle.proofs.Names.{next_row, queue_row, rw_row, spin_row, lives_at, Lives}
+use Rattle.lk_rows.specs.Machine.{word_at, rw_at, node_at, queued_at, entry_at, halted_at}
+use Rattle.lk_rows.specs.Machine.{kicked_at}
 use Rattle.lk_rows.specs.TopRow.{Target, SpinWord, QueueWord, Queued, FlagOf, NextOf, ChoiceWord}
 use Rattle.lk_rows.specs.TopRow.{ChoiceFlag, ChoiceNext, SecondTailOf, RunsOf, PvWord, PvFlag}
-use Rattle.lk_rows.specs.TopRow.{PvNext, StateOf, HashEntry, Halted, KickOf, RwWord, target, sight_at}
-use Rattle.lk_idle.specs.declared.lives.Lives.{Lives}
-use Rattle.lk_idle.specs.Lives.{lives_at}
-use Rattle.lk_idle.proofs.Branches.{Fine}
-use Rattle.lk_idle.proofs.SpinRows.{F1-fine, T1-fine, T2-fine, V1-fine, V2-fine, P0-fine, P1-fine, P3-fine}
-use Rattle.lk_idle.proofs.QueueRows.{G1-fine, G2-fine, G3-fine, G4-fine, G5-fine, G6-fine, G7-fine, G8-fine}
-use Rattle.lk_idle.proofs.QueueRows.{G9-fine, G10-fine, N1-fine, N2-fine}
-use Rattle.lk_idle.proofs.ChoiceRows.{C1-fine, C2-fine, C3-fine, C10-fine}
-use Rattle.lk_idle.proofs.PvRows.{H1-fine, H2-fine, W1-fine, W2-fine, W4-fine, W5-fine, W7-fine, E4-fine}
-use Rattle.lk_idle.proofs.PvRows.{E5-fine, E7-fine, E11-fine, E13-fine, E14-fine, K1-fine, U2-fine}
-use Rattle.lk_idle.proofs.RwRows.{R1-fine, R2-fine, R5-fine, Wr1-fine, Wr2-fine, Wr3-fine, Wr5-fine, Wr6-fine}
-use Rattle.lk_idle.proofs.RwRows.{Y1-fine, Y2-fine, Y4-fine, Y5-fine}
+use Rattle.lk_rows.specs.TopRow.{PvNext, StateOf, HashEntry, Halted, KickOf, RwWord}
+use Rattle.lk_rows.specs.declared.parts.Pc.TheVariants.{U1, P2, P4, G1, W3, E1, E2, E3, E6, E8, E9}
+use Rattle.lk_rows.specs.declared.parts.Pc.TheVariants.{E10, K2, K3, U3, U4, U5, R3, R4, Wr4, Y3}
+use Rattle.lk_rows.specs.declared.parts.Pc.TheVariants.{Z1, Z2}
+use Rattle.lk_idle.proofs.{Branches.Fine, ChoiceRows.{C1-fine, C2-fine, C3-fine, C10-fine}}
+use Rattle.lk_idle.proofs.PvRows.{H1-fine, H2-fine, W1-fine, W2-fine, W4-fine, W5-fine, W7-fine}
+use Rattle.lk_idle.proofs.PvRows.{E4-fine, E5-fine, E7-fine, E11-fine, E13-fine, E14-fine, K1-fine}
+use Rattle.lk_idle.proofs.PvRows.{U2-fine}
+use Rattle.lk_idle.proofs.QueueRows.{G1-fine, G2-fine, G3-fine, G4-fine, G5-fine, G6-fine, G7-fine}
+use Rattle.lk_idle.proofs.QueueRows.{G8-fine, G9-fine, G10-fine, N1-fine, N2-fine}
+use Rattle.lk_idle.proofs.RwRows.{R1-fine, R2-fine, R5-fine, Wr1-fine, Wr2-fine, Wr3-fine, Wr5-fine}
+use Rattle.lk_idle.proofs.RwRows.{Wr6-fine, Y1-fine, Y2-fine, Y4-fine, Y5-fine}
+use Rattle.lk_idle.proofs.SpinRows.{F1-fine, T1-fine, T2-fine, V1-fine, V2-fine, P0-fine, P1-fine}
+use Rattle.lk_idle.proofs.SpinRows.{P3-fine}
 
 module _ (m : Machine) (p : ℕ) (f : Frame) where
   abbrev pub FineAt : Lives → Pc → Target → Type 0

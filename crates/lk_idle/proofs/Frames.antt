@@ -1,15 +1,9 @@
 -- Frames whose dead registers are at rest.
 use Rattle.std.proofs.Common.{◌≡◌, Option, Some, None, Bool, true, false, ap, refl, sym, ◌∙◌}
-use Rattle.std.specs.Prelude.{if◌then◌else◌}
-use Rattle.lk_rows.specs.declared.parts.Frame.{Frame}
-use Rattle.lk_rows.specs.declared.parts.Pc.{Pc}
-use Rattle.lk_rows.specs.declared.parts.Pc.TheVariants.{C3, W6, E12}
-use Rattle.lk_rows.specs.declared.parts.Why.{Why}
+use Rattle.std.proofs.Common.{if◌then◌else◌}
+use Rattle.lk_idle.proofs.Names.{after_halt, Frame, Pc, C3, E12, W6, Why, cut, rested_frame}
+use Rattle.lk_idle.proofs.Names.{lives_at, none_lives, Lives}
 use Rattle.lk_rows.specs.declared.parts.Why.TheVariants as why
-use Rattle.lk_rows.specs.Acts.{after_halt}
-use Rattle.lk_idle.specs.declared.lives.Lives.{Lives}
-use Rattle.lk_idle.specs.Lives.{lives_at, none_lives}
-use Rattle.lk_idle.specs.Alike.{cut, rested_frame}
 
 -- the reason lives where it is read
 why_lives : (c : Option Pc) (w : Why)

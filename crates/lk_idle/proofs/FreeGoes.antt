@@ -1,36 +1,27 @@
 -- Machines that differ in nodes alone that nobody has go on alike.
-use Rattle.std.proofs.Common.{◌≡◌, ℕ, ◌+◌, Option, Some, None, Bool, true, false, ap, refl, sym, ◌∙◌, subst}
-use Rattle.std.specs.Prelude.{if◌then◌else◌, ◌||◌, ◌&&◌, ◌==◌, not, nat_le, is_some, unwrap_or}
-use Rattle.lk_names.specs.declared.events.Act.{Act}
+use Rattle.std.proofs.Common.{◌≡◌, ℕ, ◌+◌, Option, Some, None, Bool, true, false, ap, refl, sym}
+use Rattle.std.proofs.Common.{◌∙◌, subst, if◌then◌else◌, ◌||◌, ◌&&◌, ◌==◌, not, nat_le, is_some}
+use Rattle.std.specs.Prelude.{unwrap_or}
+use Rattle.lk_idle.proofs.Names.{NodeName, after_halt, Machine, rest_frame, top_frame, is_node}
+use Rattle.lk_idle.proofs.Names.{node_of, settled, Answer, Frame, Pc, C1, C2, C3, C7, E14, G6, G10}
+use Rattle.lk_idle.proofs.Names.{W1, W4, freed, is_owned, owns}
+use Rattle.lk_names.specs.{declared.events.Act.Act, declared.names.Waiter.Waiter}
+use Rattle.lk_rows.specs.Acts.{idle, woken, kicked_awake, step_halted, step, is_shut}
+use Rattle.lk_rows.specs.Acts.{stands_halting, handler_frame, awake, interrupted, nudged, next}
+use Rattle.lk_rows.specs.Machine.{cpu_at, top_of, frame_at, preempted_at, halted_at, kicked_at}
+use Rattle.lk_rows.specs.Machine.{set_top, set_halted, set_kicked, set_preempted, push}
+use Rattle.lk_rows.specs.Programs.{handlers_of}
+use Rattle.lk_law.proofs.{cna.Knows.choice_is_used, common.Users.{node_is_ones, is_node-own}}
+use Rattle.lk_law.specs.{Known.IsOwnNode, Phase.has_node, Places.{phase_at, phase_if, phase_of}}
+use Rattle.lk_law.specs.{Premises.Uses, Sound.{IsSound, world}}
+use Rattle.lk_idle.proofs.FreeLeading.{AreFreedAlike, same_top, settled-freed, pair}
+use Rattle.lk_idle.proofs.{FreeNodes.owned_by, FreeRows.{ReadsOwned, reads_own, row-freed}}
+use Rattle.lk_idle.proofs.FreeWrites.{IsOwned, top-freed, depth-freed, preempted-freed}
+use Rattle.lk_idle.proofs.FreeWrites.{halted-freed, kicked-freed, handlers-freed, set_halted-freed}
+use Rattle.lk_idle.proofs.FreeWrites.{set_kicked-freed, set_preempted-freed, push-freed}
+use Rattle.lk_idle.proofs.FreeWrites.{freed_twice}
 use Rattle.lk_names.specs.declared.events.Act.TheVariants as act
 use Rattle.lk_names.specs.declared.events.What.TheVariants as what
-use Rattle.lk_names.specs.declared.names.Waiter.{Waiter}
-use Rattle.lk_word.specs.declared.spin_word.NodeName.{NodeName}
-use Rattle.lk_rows.specs.declared.parts.Frame.{Frame}
-use Rattle.lk_rows.specs.declared.parts.Pc.{Pc}
-use Rattle.lk_rows.specs.declared.parts.Pc.TheVariants.{G6, G10, C1, C2, C3, C7, W1, W4, E14}
-use Rattle.lk_rows.specs.Machine.{Machine, cpu_at, top_frame, top_of, frame_at, preempted_at, halted_at}
-use Rattle.lk_rows.specs.Machine.{kicked_at, set_top, set_halted, set_kicked, set_preempted}
-use Rattle.lk_rows.specs.Machine.{push, rest_frame}
-use Rattle.lk_rows.specs.Moves.{settled, is_node, node_of}
-use Rattle.lk_rows.specs.Programs.{handlers_of}
-use Rattle.lk_rows.specs.Row.{Answer}
-use Rattle.lk_rows.specs.Acts.{idle, after_halt, woken, kicked_awake, step_halted, step, is_shut}
-use Rattle.lk_rows.specs.Acts.{stands_halting, handler_frame, awake, interrupted, nudged, next}
-use Rattle.lk_law.specs.Known.{IsOwnNode}
-use Rattle.lk_law.specs.Phase.{has_node}
-use Rattle.lk_law.specs.Places.{phase_at, phase_if, phase_of}
-use Rattle.lk_law.specs.Premises.{Uses}
-use Rattle.lk_law.specs.Sound.{IsSound, world}
-use Rattle.lk_law.proofs.common.Users.{node_is_ones, is_node-own}
-use Rattle.lk_law.proofs.cna.Knows.{choice_is_used}
-use Rattle.lk_idle.specs.Free.{freed, is_owned, owns}
-use Rattle.lk_idle.proofs.FreeNodes.{owned_by}
-use Rattle.lk_idle.proofs.FreeWrites.{IsOwned, top-freed, depth-freed, preempted-freed, halted-freed, kicked-freed}
-use Rattle.lk_idle.proofs.FreeWrites.{handlers-freed, set_halted-freed, set_kicked-freed, set_preempted-freed}
-use Rattle.lk_idle.proofs.FreeWrites.{push-freed, freed_twice}
-use Rattle.lk_idle.proofs.FreeLeading.{AreFreedAlike, same_top, settled-freed, pair}
-use Rattle.lk_idle.proofs.FreeRows.{ReadsOwned, reads_own, row-freed}
 
 -- one of two answers
 either : (s t : Bool) (a b c d : Answer) → s ≡ t → AreFreedAlike a c → AreFreedAlike b d

@@ -1,22 +1,20 @@
 -- Where a row leads, on a machine whose unowned nodes are at rest.
-use Rattle.std.proofs.Common.{◌≡◌, ℕ, ◌+◌, ◌-◌, Option, Some, None, Bool, true, false, List, [], ◌∷◌}
-use Rattle.std.proofs.Common.{ap, refl, sym, ◌∙◌, subst, slice_get}
-use Rattle.std.specs.Prelude.{if◌then◌else◌, ◌==◌}
+use Rattle.std.proofs.Common.{◌≡◌, ℕ, ◌+◌, ◌-◌, Option, Some, None, Bool, true, false, List, []}
+use Rattle.std.proofs.Common.{◌∷◌, ap, refl, sym, ◌∙◌, subst, slice_get, if◌then◌else◌, ◌==◌}
+use Rattle.lk_idle.proofs.Names.{NodeName, Machine, rest_node, top_frame, settled, Answer, Change}
+use Rattle.lk_idle.proofs.Names.{Done, Effect, Enters, Freed, Goes, Granted, Lead, Leaves, Missed}
+use Rattle.lk_idle.proofs.Names.{TakesWait, Yields, applied, Frame, freed, owns}
 use Rattle.lk_names.specs.declared.events.What.TheVariants.{Pass}
-use Rattle.lk_word.specs.declared.spin_word.NodeName.{NodeName}
-use Rattle.lk_rows.specs.declared.setup.Op.{Op}
-use Rattle.lk_rows.specs.declared.parts.Frame.{Frame}
-use Rattle.lk_rows.specs.Machine.{Machine, top_frame, frame_at, depth_at, cpu_at, set_top}
-use Rattle.lk_rows.specs.Machine.{set_node, set_queued, queued_at, set_counts, pop, rest_node}
-use Rattle.lk_rows.specs.Moves.{program_of, started, settled_at, settled, done, granted, missed, skipped}
+use Rattle.lk_rows.specs.Machine.{frame_at, depth_at, cpu_at, set_top, set_node, set_queued}
+use Rattle.lk_rows.specs.Machine.{queued_at, set_counts, pop}
+use Rattle.lk_rows.specs.Moves.{program_of, started, settled_at, done, granted, missed, skipped}
 use Rattle.lk_rows.specs.Moves.{leave, waiting}
-use Rattle.lk_rows.specs.Row.{Answer, Change, Counter, Effect, Lead, Goes, Enters, Granted, Freed, Missed}
-use Rattle.lk_rows.specs.Row.{Done, TakesWait, Leaves, Yields, Tell, Nothing, Says, Passes}
-use Rattle.lk_rows.specs.Row.{moved, counted, changed_all, with_change, gone, entered, event_of, applied}
-use Rattle.lk_rows.specs.Row.{Prev, Second, Y, Left, A, B, K, T, Reason, Tailed, HashedIs, TargetIs, count_all}
-use Rattle.lk_idle.specs.Free.{freed, owns}
-use Rattle.lk_idle.proofs.FreeWrites.{set_top-freed, pop-freed, top-freed, queued-freed, set_queued-freed}
-use Rattle.lk_idle.proofs.FreeWrites.{waiter-freed, enter-freed}
+use Rattle.lk_rows.specs.Row.{Counter, Tell, Nothing, Says, Passes, moved, counted, changed_all}
+use Rattle.lk_rows.specs.Row.{with_change, gone, entered, event_of, Prev, Second, Y, Left, A, B, K}
+use Rattle.lk_rows.specs.Row.{T, Reason, Tailed, HashedIs, TargetIs, count_all}
+use Rattle.lk_rows.specs.declared.setup.Op.{Op}
+use Rattle.lk_idle.proofs.FreeWrites.{set_top-freed, pop-freed, top-freed, queued-freed}
+use Rattle.lk_idle.proofs.FreeWrites.{set_queued-freed, waiter-freed, enter-freed}
 
 -- two answers are alike
 pub record AreFreedAlike (a b : Answer) : Type 0 where

@@ -1,14 +1,13 @@
 -- Nodes that no frame has.
-use Rattle.std.proofs.Common.{◌≡◌, ◌≢◌, ℕ, ◌+◌, Bool, true, false, List, [], ◌∷◌, ◌++◌, Option, Some, None, ◌||◌, ◌⊎◌}
-use Rattle.std.proofs.Common.{length, take, get_or, set, slice_get, ap, refl, sym, ◌∙◌, subst, zero, suc, arith, inl, inr, length-set}
-use Rattle.std.specs.Prelude.{unwrap_or, ◌==◌}
-use Rattle.std.proofs.lemmas.Bool.{cases_eq, cases_lt}
-use Rattle.std.proofs.lemmas.List.{ext_get_or, get_or-set_same, get_or-set_other, set_past, get_or_past}
-use Rattle.lk_word.specs.declared.spin_word.NodeName.{NodeName}
-use Rattle.lk_rows.specs.declared.parts.Frame.{Frame}
-use Rattle.lk_rows.specs.declared.parts.Node.{Node}
-use Rattle.lk_rows.specs.Machine.{rest_frame, rest_node}
-use Rattle.lk_idle.specs.Free.{freed_node, freed_nodes, is_owned, owns}
+use Rattle.std.proofs.Common.{◌≡◌, ◌≢◌, ℕ, ◌+◌, Bool, true, false, List, [], ◌∷◌, ◌++◌, Option}
+use Rattle.std.proofs.Common.{Some, None, ◌||◌, ◌⊎◌, length, take, get_or, set, slice_get, ap, refl}
+use Rattle.std.proofs.Common.{sym, ◌∙◌, subst, zero, suc, arith, inl, inr, length-set, ◌==◌}
+use Rattle.std.proofs.lemmas.Bool.{cases_eq}
+use Rattle.std.proofs.lemmas.List.{ext_get_or, get_or-set_same, get_or-set_other, get_or_past}
+use Rattle.std.specs.Prelude.{unwrap_or}
+use Rattle.lk_idle.proofs.Names.{cases_lt, set_past, NodeName, rest_frame, rest_node, Frame, Node}
+use Rattle.lk_idle.proofs.Names.{freed_node, is_owned, owns}
+use Rattle.lk_idle.specs.Free.{freed_nodes}
 
 -- lists of nodes
 

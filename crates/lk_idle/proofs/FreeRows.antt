@@ -1,46 +1,33 @@
 -- Each row does alike on a machine whose unowned nodes are at rest.
-use Rattle.std.proofs.Common.{◌≡◌, ℕ, Option, Some, None, Bool, true, false, ap, refl, sym, ◌∙◌, subst}
-use Rattle.lk_names.specs.Lawful.{is_local}
-use Rattle.lk_names.specs.declared.names.LockName.{LockName}
-use Rattle.lk_word.specs.declared.spin_word.NodeName.{NodeName}
-use Rattle.lk_word.specs.declared.spin_word.Fields.{Fields}
-use Rattle.lk_word.specs.declared.rw_word.RwFields.{RwFields}
-use Rattle.lk_rows.specs.declared.parts.Flag.{Flag}
-use Rattle.lk_rows.specs.declared.parts.Node.{Node}
-use Rattle.lk_rows.specs.declared.parts.State.{State}
-use Rattle.lk_rows.specs.declared.parts.Frame.{Frame}
-use Rattle.lk_rows.specs.declared.parts.Pc.{Pc}
-use Rattle.lk_rows.specs.declared.parts.Pc.TheVariants.{G5, G6, G10, G11, C1, C2, C3, C4, C5, C6, C7, C8, C9}
-use Rattle.lk_rows.specs.declared.parts.Pc.TheVariants.{W1, W4, E14, E15}
-use Rattle.lk_rows.specs.Machine.{Machine, lock_at, word_at, rw_at, node_at, queued_at}
-use Rattle.lk_rows.specs.Machine.{entry_at, halted_at, kicked_at, top_frame, set_lock, set_word, set_rw}
-use Rattle.lk_rows.specs.Machine.{set_entry, set_queued, set_halted, set_kicked}
-use Rattle.lk_rows.specs.Moves.{node_of}
-use Rattle.lk_rows.specs.Row.{Effect, Lead, Goes, Enters, Granted, Freed, Missed, Done, TakesWait, Leaves}
-use Rattle.lk_rows.specs.Row.{Yields, applied}
-use Rattle.lk_rows.specs.rows.Spin.{spin_row}
-use Rattle.lk_rows.specs.rows.Queue.{queue_row, entry_row, flag_row, next_row}
-use Rattle.lk_rows.specs.rows.Cna.{search_row, second_row, runs_row, handover_row, promotion_row}
-use Rattle.lk_rows.specs.rows.Pv.{pv_row, pv_flag_row, pv_next_row, state_row, hash_row, halt_row, kick_row}
-use Rattle.lk_rows.specs.rows.Rw.{rw_row}
+use Rattle.std.proofs.Common.{◌≡◌, ℕ, Option, Some, None, Bool, true, false, ap, refl, sym, ◌∙◌}
+use Rattle.std.proofs.Common.{subst}
+use Rattle.lk_idle.proofs.Names.{RwFields, Fields, NodeName, Machine, top_frame, node_of, Done}
+use Rattle.lk_idle.proofs.Names.{Effect, Enters, Freed, Goes, Granted, Lead, Leaves, Missed}
+use Rattle.lk_idle.proofs.Names.{TakesWait, Yields, applied, sight_at, target, Flag, Frame, Node}
+use Rattle.lk_idle.proofs.Names.{Pc, C1, C2, C3, C4, C5, C6, C7, C8, C9, E14, E15, G5, G6, G10, G11}
+use Rattle.lk_idle.proofs.Names.{W1, W4, State, handover_row, promotion_row, runs_row, search_row}
+use Rattle.lk_idle.proofs.Names.{second_row, halt_row, hash_row, kick_row, pv_flag_row, pv_next_row}
+use Rattle.lk_idle.proofs.Names.{pv_row, state_row, entry_row, flag_row, next_row, queue_row}
+use Rattle.lk_idle.proofs.Names.{rw_row, spin_row, freed, freed_node, lives_at, Lives}
+use Rattle.lk_names.specs.{Lawful.is_local, declared.names.LockName.LockName}
+use Rattle.lk_rows.specs.Machine.{lock_at, word_at, rw_at, node_at, queued_at, entry_at, halted_at}
+use Rattle.lk_rows.specs.Machine.{kicked_at, set_lock, set_word, set_rw, set_entry, set_queued}
+use Rattle.lk_rows.specs.Machine.{set_halted, set_kicked}
 use Rattle.lk_rows.specs.TopRow.{Target, SpinWord, QueueWord, Queued, FlagOf, NextOf, ChoiceWord}
 use Rattle.lk_rows.specs.TopRow.{ChoiceFlag, ChoiceNext, SecondTailOf, RunsOf, PvWord, PvFlag}
-use Rattle.lk_rows.specs.TopRow.{PvNext, StateOf, HashEntry, Halted, KickOf, RwWord, target}
-use Rattle.lk_rows.specs.TopRow.{sight_at, stored_word, stored_rw, stored_flag, stored_next}
-use Rattle.lk_rows.specs.TopRow.{stored_second, stored_runs, stored_state, stored_entry}
-use Rattle.lk_rows.specs.TopRow.{stored_halted, stored_kicked, stored_queued, row_on, row_at, row}
-use Rattle.lk_idle.specs.declared.lives.Lives.{Lives}
-use Rattle.lk_idle.specs.Lives.{lives_at}
-use Rattle.lk_idle.specs.Free.{freed, freed_node}
-use Rattle.lk_idle.proofs.Leading.{LeadsFine}
-use Rattle.lk_idle.proofs.Branches.{Fine}
-use Rattle.lk_idle.proofs.Stores.{word-stores, rw-stores, entry-stores, flag-stores, next-stores, second-stores}
-use Rattle.lk_idle.proofs.Stores.{runs-stores, state-stores, halted-stores, kicked-stores, queued-stores}
-use Rattle.lk_idle.proofs.FineRows.{FineAt, fine_at}
-use Rattle.lk_idle.proofs.FreeWrites.{IsOwned, node-owned, state-freed, waiter-freed, field-freed, freed_twice}
-use Rattle.lk_idle.proofs.FreeWrites.{queued-freed, halted-freed, kicked-freed, top-freed}
-use Rattle.lk_idle.proofs.FreeWrites.{set_queued-freed, set_halted-freed, set_kicked-freed}
+use Rattle.lk_rows.specs.TopRow.{PvNext, StateOf, HashEntry, Halted, KickOf, RwWord, stored_word}
+use Rattle.lk_rows.specs.TopRow.{stored_rw, stored_flag, stored_next, stored_second, stored_runs}
+use Rattle.lk_rows.specs.TopRow.{stored_state, stored_entry, stored_halted, stored_kicked}
+use Rattle.lk_rows.specs.TopRow.{stored_queued, row_on, row_at, row}
+use Rattle.lk_idle.proofs.{Branches.Fine, FineRows.{FineAt, fine_at}}
 use Rattle.lk_idle.proofs.FreeLeading.{AreFreedAlike, EntersOwn, applied-freed}
+use Rattle.lk_idle.proofs.FreeWrites.{IsOwned, node-owned, state-freed, waiter-freed, field-freed}
+use Rattle.lk_idle.proofs.FreeWrites.{freed_twice, queued-freed, halted-freed, kicked-freed}
+use Rattle.lk_idle.proofs.FreeWrites.{top-freed, set_queued-freed, set_halted-freed}
+use Rattle.lk_idle.proofs.{FreeWrites.set_kicked-freed, Leading.LeadsFine}
+use Rattle.lk_idle.proofs.Stores.{word-stores, rw-stores, entry-stores, flag-stores, next-stores}
+use Rattle.lk_idle.proofs.Stores.{second-stores, runs-stores, state-stores, halted-stores}
+use Rattle.lk_idle.proofs.Stores.{kicked-stores, queued-stores}
 
 -- what is stored
 

@@ -1,22 +1,20 @@
 -- What is read of a machine whose unowned nodes are at rest, and what is written to it.
 use Rattle.std.proofs.Common.{◌≡◌, ◌≢◌, ℕ, ◌+◌, ◌-◌, Option, Some, None, Bool, true, [], ◌∷◌, ◌++◌}
-use Rattle.std.proofs.Common.{length, take, get_or, set, slice_get, position, ap, refl, sym, ◌∙◌, subst, ◌≤◌, inl, inr}
+use Rattle.std.proofs.Common.{length, take, get_or, set, slice_get, position, ap, refl, sym, ◌∙◌}
+use Rattle.std.proofs.Common.{subst, ◌≤◌, inl, inr}
 use Rattle.std.specs.Prelude.{unwrap_or}
-use Rattle.std.proofs.lemmas.Bool.{cases_lt}
-use Rattle.std.proofs.lemmas.List.{set_past}
+use Rattle.lk_idle.proofs.Names.{cases_lt, set_past, NodeName, CpuState, Machine, rest_frame}
+use Rattle.lk_idle.proofs.Names.{rest_node, top_frame, is_node, Frame, Node, freed, freed_node}
+use Rattle.lk_idle.proofs.Names.{is_owned, owns}
+use Rattle.lk_rows.specs.Machine.{cpu_at, node_at, frame_at, depth_at, queued_at, halted_at}
+use Rattle.lk_rows.specs.Machine.{kicked_at, preempted_at, handlers_at, set_cpu, set_node, set_top}
+use Rattle.lk_rows.specs.Machine.{set_queued, set_halted, set_kicked, set_preempted, pop, push}
+use Rattle.lk_rows.specs.{Machine.no_cpu, Moves.{context_of, waiter_of}}
 use Rattle.lk_core.proofs.Access.{cpu_same}
-use Rattle.lk_word.specs.declared.spin_word.NodeName.{NodeName}
-use Rattle.lk_rows.specs.declared.parts.Frame.{Frame}
-use Rattle.lk_rows.specs.declared.parts.Node.{Node}
-use Rattle.lk_rows.specs.Machine.{Machine, CpuState, cpu_at, node_at, frame_at, depth_at, queued_at}
-use Rattle.lk_rows.specs.Machine.{halted_at, kicked_at, preempted_at, handlers_at, top_frame}
-use Rattle.lk_rows.specs.Machine.{set_cpu, set_node, set_top, set_queued, set_halted, set_kicked}
-use Rattle.lk_rows.specs.Machine.{set_preempted, pop, push, rest_frame, rest_node, no_cpu}
-use Rattle.lk_rows.specs.Moves.{is_node, context_of, waiter_of}
-use Rattle.lk_idle.specs.Free.{freed, freed_cpu, freed_node, is_owned, owns}
+use Rattle.lk_idle.proofs.FreeNodes.{get_freed, fewer_freed, stored_freed, reset_freed, owned_set}
+use Rattle.lk_idle.proofs.FreeNodes.{owned_take, owned_push, same_number, set_again}
 use Rattle.lk_idle.proofs.Lists.{get_or_mapped, set_mapped, mapped_twice}
-use Rattle.lk_idle.proofs.FreeNodes.{get_freed, fewer_freed, stored_freed, reset_freed}
-use Rattle.lk_idle.proofs.FreeNodes.{owned_set, owned_take, owned_push, same_number, set_again}
+use Rattle.lk_idle.specs.Free.{freed_cpu}
 
 -- what is read
 

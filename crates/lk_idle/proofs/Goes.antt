@@ -1,37 +1,30 @@
 -- Machines that are alike go on alike.
-use Rattle.std.proofs.Common.{List, [], ◌∷◌, map, suc, ◌≡◌, ℕ, ◌+◌, Option, Some, None, Bool, true, false, ap, refl, sym, ◌∙◌, subst}
-use Rattle.std.specs.Prelude.{if◌then◌else◌, ◌||◌, ◌&&◌, not, nat_le, unwrap_or}
+use Rattle.std.proofs.Common.{List, [], ◌∷◌, map, suc, ◌≡◌, ℕ, ◌+◌, Option, Some, None, Bool, true}
+use Rattle.std.proofs.Common.{false, ap, refl, sym, ◌∙◌, subst, if◌then◌else◌, ◌||◌, ◌&&◌, not}
+use Rattle.std.proofs.Common.{nat_le}
+use Rattle.std.specs.Prelude.{unwrap_or}
+use Rattle.lk_idle.proofs.Names.{after_halt, CpuState, Machine, rest_frame, top_frame, settled}
+use Rattle.lk_idle.proofs.Names.{Answer, Frame, Node, Pc, Why, cut, rested, rested_cpu}
+use Rattle.lk_idle.proofs.Names.{rested_frame, freed, freed_node, is_owned, owns, lives_at}
+use Rattle.lk_idle.proofs.Names.{none_lives}
 use Rattle.lk_names.specs.declared.events.Act.{Act}
+use Rattle.lk_rows.specs.Acts.{idle, woken, kicked_awake, step_halted, step, is_shut}
+use Rattle.lk_rows.specs.Acts.{stands_halting, handler_frame, awake, interrupted, nudged, next}
+use Rattle.lk_rows.specs.Machine.{cpu_at, top_of, frame_at, preempted_at, halted_at, kicked_at}
+use Rattle.lk_rows.specs.Machine.{set_top, set_halted, set_kicked, set_preempted, push}
+use Rattle.lk_rows.specs.{Programs.handlers_of, declared.setup.Verb.Verb}
+use Rattle.lk_rows.specs.declared.setup.Verb.TheVariants.{Read, Write}
+use Rattle.lk_law.specs.Sound.{IsSound, after_wait}
+use Rattle.lk_idle.proofs.{Frames.halt_lives, FreeGoes.{next-freed, sound_owned}}
+use Rattle.lk_idle.proofs.FreeWrites.{cpu-freed, top-freed}
+use Rattle.lk_idle.proofs.{Leading.{Alike, KnowsWay, settled-alike}, Rows.row-alike}
+use Rattle.lk_idle.proofs.Writes.{top-rested, depth-rested, preempted-rested, halted-rested}
+use Rattle.lk_idle.proofs.Writes.{kicked-rested, handlers-rested, set_top-rested, set_halted-rested}
+use Rattle.lk_idle.proofs.Writes.{set_kicked-rested, set_preempted-rested, push-rested}
+use Rattle.lk_idle.proofs.Writes.{machine_twice, cpu-rested}
+use Rattle.lk_idle.specs.{Alike.{bared, bared_cpu, AlikeGoesOn}, Free.{freed_cpu, freed_nodes}}
 use Rattle.lk_names.specs.declared.events.Act.TheVariants as act
 use Rattle.lk_names.specs.declared.events.What.TheVariants as what
-use Rattle.lk_rows.specs.declared.setup.Verb.{Verb}
-use Rattle.lk_rows.specs.declared.setup.Verb.TheVariants.{Read, Write}
-use Rattle.lk_rows.specs.declared.parts.Frame.{Frame}
-use Rattle.lk_rows.specs.declared.parts.Pc.{Pc}
-use Rattle.lk_rows.specs.declared.parts.Node.{Node}
-use Rattle.lk_rows.specs.declared.parts.Why.{Why}
-use Rattle.lk_rows.specs.Machine.{CpuState, cpu_at}
-use Rattle.lk_rows.specs.Machine.{Machine, top_frame, top_of, frame_at, preempted_at, halted_at}
-use Rattle.lk_rows.specs.Machine.{kicked_at, set_top, set_halted, set_kicked, set_preempted}
-use Rattle.lk_rows.specs.Machine.{push, rest_frame}
-use Rattle.lk_rows.specs.Moves.{settled}
-use Rattle.lk_rows.specs.Programs.{handlers_of}
-use Rattle.lk_rows.specs.Row.{Answer}
-use Rattle.lk_rows.specs.Acts.{idle, after_halt, woken, kicked_awake, step_halted, step, is_shut}
-use Rattle.lk_rows.specs.Acts.{stands_halting, handler_frame, awake, interrupted, nudged, next}
-use Rattle.lk_law.specs.Sound.{IsSound, after_wait}
-use Rattle.lk_idle.specs.Lives.{lives_at, none_lives}
-use Rattle.lk_idle.specs.Free.{freed, freed_cpu, freed_node, freed_nodes, is_owned, owns}
-use Rattle.lk_idle.specs.Alike.{bared, bared_cpu, cut, rested, rested_cpu, rested_frame, AlikeGoesOn}
-use Rattle.lk_idle.proofs.Frames.{halt_lives}
-use Rattle.lk_idle.proofs.Writes.{top-rested, depth-rested, preempted-rested, halted-rested, kicked-rested}
-use Rattle.lk_idle.proofs.Writes.{handlers-rested, set_top-rested, set_halted-rested, set_kicked-rested}
-use Rattle.lk_idle.proofs.Writes.{set_preempted-rested, push-rested, machine_twice}
-use Rattle.lk_idle.proofs.Leading.{Alike, KnowsWay, settled-alike}
-use Rattle.lk_idle.proofs.Rows.{row-alike}
-use Rattle.lk_idle.proofs.Writes.{cpu-rested}
-use Rattle.lk_idle.proofs.FreeWrites.{cpu-freed, top-freed}
-use Rattle.lk_idle.proofs.FreeGoes.{next-freed, sound_owned}
 
 -- one of two answers
 either : (s t : Bool) (a b c d : Answer) → s ≡ t → Alike a c → Alike b d

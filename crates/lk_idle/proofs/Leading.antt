@@ -1,26 +1,19 @@
 -- Where a row leads, on a machine whose dead registers are at rest.
-use Rattle.std.proofs.Common.{◌≡◌, ℕ, ◌+◌, ◌-◌, Option, Some, None, Bool, true, false, List, [], ◌∷◌}
-use Rattle.std.proofs.Common.{ap, refl, sym, ◌∙◌, subst, slice_get}
-use Rattle.std.specs.Prelude.{if◌then◌else◌, ◌==◌}
-use Rattle.lk_names.specs.declared.names.Mode.{Mode}
-use Rattle.lk_names.specs.declared.names.Mode.TheVariants.{Virt, Native, Cna, Pv}
+use Rattle.std.proofs.Common.{◌≡◌, ℕ, ◌+◌, ◌-◌, Option, Some, None, Bool, true, false, List, []}
+use Rattle.std.proofs.Common.{◌∷◌, ap, refl, sym, ◌∙◌, subst, slice_get, if◌then◌else◌, ◌==◌}
+use Rattle.lk_idle.proofs.Names.{NodeName, Mode, Pv, Machine, top_frame, settled, Answer, Done}
+use Rattle.lk_idle.proofs.Names.{Effect, Enters, Freed, Goes, Granted, Lead, Leaves, Missed}
+use Rattle.lk_idle.proofs.Names.{TakesWait, Yields, applied, Frame, Why, cut, rested, rested_frame}
+use Rattle.lk_idle.proofs.Names.{lives_at, none_lives, Lives}
 use Rattle.lk_names.specs.declared.events.What.TheVariants.{Pass}
-use Rattle.lk_word.specs.declared.spin_word.NodeName.{NodeName}
-use Rattle.lk_rows.specs.declared.setup.Op.{Op}
-use Rattle.lk_rows.specs.declared.setup.Verb.{Verb}
+use Rattle.lk_names.specs.declared.names.Mode.TheVariants.{Virt, Native, Cna}
+use Rattle.lk_rows.specs.Machine.{frame_at, depth_at, cpu_at, set_top, set_queued, queued_at}
+use Rattle.lk_rows.specs.Machine.{set_counts, pop}
+use Rattle.lk_rows.specs.Moves.{first_place, program_of, started, settled_at, done, granted, missed}
+use Rattle.lk_rows.specs.Moves.{skipped, leave, waiting}
+use Rattle.lk_rows.specs.Row.{Counter, Tell, Nothing, Says, Passes, moved, counted, gone, entered}
+use Rattle.lk_rows.specs.{Row.{with_rest, event_of}, declared.setup.Op.Op, declared.setup.Verb.Verb}
 use Rattle.lk_rows.specs.declared.setup.Verb.TheVariants.{Unlock}
-use Rattle.lk_rows.specs.declared.parts.Frame.{Frame}
-use Rattle.lk_rows.specs.declared.parts.Why.{Why}
-use Rattle.lk_rows.specs.Machine.{Machine, top_frame, frame_at, depth_at, cpu_at, set_top}
-use Rattle.lk_rows.specs.Machine.{set_queued, queued_at, set_counts, pop}
-use Rattle.lk_rows.specs.Moves.{first_place, program_of, started, settled_at, settled, done, granted}
-use Rattle.lk_rows.specs.Moves.{missed, skipped, leave, waiting}
-use Rattle.lk_rows.specs.Row.{Answer, Counter, Effect, Lead, Goes, Enters, Granted, Freed, Missed}
-use Rattle.lk_rows.specs.Row.{Done, TakesWait, Leaves, Yields, Tell, Nothing, Says, Passes}
-use Rattle.lk_rows.specs.Row.{moved, counted, gone, entered, with_rest, event_of, applied}
-use Rattle.lk_idle.specs.declared.lives.Lives.{Lives}
-use Rattle.lk_idle.specs.Lives.{lives_at, none_lives}
-use Rattle.lk_idle.specs.Alike.{cut, rested, rested_frame}
 use Rattle.lk_idle.proofs.Frames.{none_left}
 use Rattle.lk_idle.proofs.Writes.{top-rested, queued-rested, set_top-rested, set_top-alike}
 use Rattle.lk_idle.proofs.Writes.{set_node-rested, set_queued-rested, pop-rested, machine_twice}

@@ -1,10 +1,9 @@
 -- Lists of which each item is changed.
-use Rattle.std.proofs.Common.{◌≡◌, ℕ, ◌+◌, Bool, List, [], ◌∷◌, ◌++◌, Some, None}
-use Rattle.std.proofs.Common.{map, length, take, get_or, set, slice_get, cond, not, nat_lt, position}
-use Rattle.std.proofs.Common.{ap, refl, ◌∙◌, zero, suc}
-use Rattle.std.specs.Prelude.{unwrap_or}
+use Rattle.std.proofs.Common.{◌≡◌, ℕ, ◌+◌, Bool, List, [], ◌∷◌, ◌++◌, Some, None, map, length, take}
+use Rattle.std.proofs.Common.{get_or, set, slice_get, cond, not, nat_lt, position, ap, refl, ◌∙◌}
+use Rattle.std.proofs.Common.{zero, suc}
 use Rattle.std.proofs.lemmas.List.{length-map}
-use Rattle.std.specs.List.{position_or_len, prefix_len}
+use Rattle.std.specs.{List.{position_or_len, prefix_len}, Prelude.unwrap_or}
 
 module _ {A B : Type 0} (h : A → B) where
   pub get_or_mapped : (xs : List A) (i : ℕ) (d : A) → get_or (map h xs) i (h d) ≡ h (get_or xs i d)

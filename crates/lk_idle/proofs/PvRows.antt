@@ -1,23 +1,14 @@
 -- Where the rows of the paravirtual lock lead.
-use Rattle.std.proofs.Common.{ℕ, ◌-◌, true, Option, Some, None, List, [], ◌∷◌, refl}
-use Rattle.std.specs.Prelude.{◌&&◌, ◌==◌, not, is_some}
-use Rattle.lk_word.specs.declared.spin_word.NodeName.{NodeName}
-use Rattle.lk_word.specs.declared.spin_word.Fields.{Fields}
-use Rattle.lk_rows.specs.declared.parts.Flag.{Flag}
-use Rattle.lk_rows.specs.declared.parts.State.{State}
-use Rattle.lk_rows.specs.declared.parts.Frame.{Frame}
-use Rattle.lk_rows.specs.declared.parts.Pc.TheVariants.{H1, H2, W1, W2, W4, W5, W7, E4, E5, E7, E11}
-use Rattle.lk_rows.specs.declared.parts.Pc.TheVariants.{E13, E14, K1, U2}
-use Rattle.lk_rows.specs.Row.{Change, Goes}
-use Rattle.lk_rows.specs.rows.Spin.{is_unlocked}
-use Rattle.lk_rows.specs.rows.Cna.{is_held, is_last}
-use Rattle.lk_rows.specs.rows.Pv.{pv_row, pv_flag_row, pv_next_row, state_row, after_given_up}
-use Rattle.lk_rows.specs.rows.Pv.{is_set, is_running, is_halted, is_slow_byte}
-use Rattle.lk_rows.specs.Row.{Tailed}
-use Rattle.lk_idle.specs.declared.lives.Lives.{Lives}
-use Rattle.lk_idle.specs.Lives.{none_lives, second_lives, prev_lives, y_lives, hashed_lives}
-use Rattle.lk_idle.proofs.Leading.{LeadsFine}
-use Rattle.lk_idle.proofs.Branches.{Fine, pick, goes}
+use Rattle.std.proofs.Common.{ℕ, ◌-◌, true, Option, Some, None, List, [], ◌∷◌, refl, ◌&&◌, ◌==◌}
+use Rattle.std.proofs.Common.{not, is_some}
+use Rattle.lk_idle.proofs.Names.{Fields, NodeName, Change, Goes, Flag, Frame, E4, E5, E7, E11, E13}
+use Rattle.lk_idle.proofs.Names.{E14, H1, H2, K1, U2, W1, W2, W4, W5, W7, State, pv_flag_row}
+use Rattle.lk_idle.proofs.Names.{pv_next_row, pv_row, state_row, is_unlocked, none_lives}
+use Rattle.lk_idle.proofs.Names.{second_lives, Lives}
+use Rattle.lk_rows.specs.{Row.Tailed, rows.Cna.{is_held, is_last}}
+use Rattle.lk_rows.specs.rows.Pv.{after_given_up, is_set, is_running, is_halted, is_slow_byte}
+use Rattle.lk_idle.proofs.{Branches.{Fine, pick, goes}, Leading.LeadsFine}
+use Rattle.lk_idle.specs.Lives.{prev_lives, y_lives, hashed_lives}
 
 -- those that live where a waiter may steal, while it spins, and while a head spins
 abbrev pub stealing_lives : Lives

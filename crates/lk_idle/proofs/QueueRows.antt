@@ -1,23 +1,15 @@
 -- Where the rows of the queue lead.
-use Rattle.std.proofs.Common.{◌≡◌, ℕ, Bool, true, false, Option, Some, None, [], refl}
-use Rattle.std.specs.Prelude.{◌&&◌, nat_lt, not, is_some, if◌then◌else◌}
-use Rattle.lk_names.specs.declared.names.Mode.{Mode}
-use Rattle.lk_names.specs.declared.names.Mode.TheVariants.{Cna, Pv}
-use Rattle.lk_word.specs.declared.spin_word.NodeName.{NodeName}
-use Rattle.lk_word.specs.declared.spin_word.Fields.{Fields}
-use Rattle.lk_rows.specs.declared.parts.Flag.{Flag}
+use Rattle.std.proofs.Common.{◌≡◌, ℕ, Bool, true, false, Option, Some, None, [], refl, ◌&&◌, nat_lt}
+use Rattle.std.proofs.Common.{not, is_some, if◌then◌else◌}
+use Rattle.lk_idle.proofs.Names.{Fields, NodeName, Mode, Pv, is_node, node_of, Enters, Goes, Flag}
+use Rattle.lk_idle.proofs.Names.{Frame, G2, G3, G4, G5, G6, G7, G8, G9, G10, N1, N2, entry_row}
+use Rattle.lk_idle.proofs.Names.{flag_row, next_row, queue_row, is_unlocked, none_lives}
+use Rattle.lk_idle.proofs.Names.{second_lives, Lives}
+use Rattle.lk_names.specs.declared.names.Mode.TheVariants.{Cna}
+use Rattle.lk_rows.specs.rows.Queue.{after_entry, after_arrival, after_head, after_link, is_sole}
+use Rattle.lk_rows.specs.rows.Spin.{is_free}
+use Rattle.lk_idle.proofs.{Branches.{Fine, pick, goes}, Leading.LeadsFine}
 use Rattle.lk_rows.specs.declared.parts.Flag.TheVariants as flag
-use Rattle.lk_rows.specs.declared.parts.Frame.{Frame}
-use Rattle.lk_rows.specs.declared.parts.Pc.TheVariants.{G2, G3, G4, G5, G6, G7, G8, G9, G10, N1, N2}
-use Rattle.lk_rows.specs.Moves.{is_node, node_of}
-use Rattle.lk_rows.specs.Row.{Goes, Enters}
-use Rattle.lk_rows.specs.rows.Spin.{is_free, is_unlocked}
-use Rattle.lk_rows.specs.rows.Queue.{queue_row, entry_row, flag_row, next_row, after_entry}
-use Rattle.lk_rows.specs.rows.Queue.{after_arrival, after_head, after_link, is_sole}
-use Rattle.lk_idle.specs.declared.lives.Lives.{Lives}
-use Rattle.lk_idle.specs.Lives.{none_lives, second_lives}
-use Rattle.lk_idle.proofs.Leading.{LeadsFine}
-use Rattle.lk_idle.proofs.Branches.{Fine, pick, goes}
 
 -- those that live where the own node is linked
 abbrev pub link_lives : Lives

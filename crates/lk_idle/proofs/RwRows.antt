@@ -1,16 +1,9 @@
 -- Where the rows of readers and writers lead, in which no register lives.
-use Rattle.std.proofs.Common.{ℕ, [], refl}
-use Rattle.std.specs.Prelude.{◌==◌}
-use Rattle.lk_names.specs.declared.names.Mode.{Mode}
-use Rattle.lk_names.specs.declared.names.Mode.TheVariants.{Pv}
-use Rattle.lk_word.specs.declared.rw_word.RwFields.{RwFields}
-use Rattle.lk_rows.specs.declared.parts.Frame.{Frame}
-use Rattle.lk_rows.specs.declared.parts.Pc.TheVariants.{R1, R2, R5, Wr1, Wr2, Wr3, Wr5, Wr6}
-use Rattle.lk_rows.specs.declared.parts.Pc.TheVariants.{Y1, Y2, Y4, Y5}
-use Rattle.lk_rows.specs.rows.Rw.{rw_row, is_open, is_empty, is_cleared, frees_wait}
-use Rattle.lk_idle.specs.Lives.{none_lives}
-use Rattle.lk_idle.proofs.Leading.{LeadsFine}
-use Rattle.lk_idle.proofs.Branches.{Fine, pick, goes}
+use Rattle.std.proofs.Common.{ℕ, [], refl, ◌==◌}
+use Rattle.lk_idle.proofs.Names.{RwFields, Mode, Pv, Frame, R1, R2, R5, Wr1, Wr2, Wr3, Wr5, Wr6, Y1}
+use Rattle.lk_idle.proofs.Names.{Y2, Y4, Y5, rw_row, none_lives}
+use Rattle.lk_rows.specs.rows.Rw.{is_open, is_empty, is_cleared, frees_wait}
+use Rattle.lk_idle.proofs.{Branches.{Fine, pick, goes}, Leading.LeadsFine}
 
 module _ (p : ℕ) (f : Frame) (mode : Mode) (x : RwFields) where
   frees : (mode : Mode) → LeadsFine p none_lives f (frees_wait mode)

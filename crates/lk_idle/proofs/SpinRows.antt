@@ -1,16 +1,10 @@
 -- Where the rows on the word of a spinlock lead, in which no register lives.
-use Rattle.std.proofs.Common.{ℕ, [], refl}
-use Rattle.std.specs.Prelude.{◌&&◌, not, is_some}
-use Rattle.lk_names.specs.declared.names.Mode.{Mode}
-use Rattle.lk_names.specs.declared.names.Mode.TheVariants.{Virt, Pv}
-use Rattle.lk_word.specs.declared.spin_word.Fields.{Fields}
-use Rattle.lk_rows.specs.declared.parts.Frame.{Frame}
-use Rattle.lk_rows.specs.declared.parts.Pc.TheVariants.{F1, T1, T2, V1, V2, P0, P1, P3}
-use Rattle.lk_rows.specs.Row.{Goes}
-use Rattle.lk_rows.specs.rows.Spin.{spin_row, is_free, is_unlocked, to_queue, after_fast}
-use Rattle.lk_idle.specs.Lives.{none_lives}
-use Rattle.lk_idle.proofs.Leading.{LeadsFine}
-use Rattle.lk_idle.proofs.Branches.{Fine, pick, goes}
+use Rattle.std.proofs.Common.{ℕ, [], refl, ◌&&◌, not, is_some}
+use Rattle.lk_idle.proofs.Names.{Fields, Mode, Pv, Goes, Frame, F1, P0, P1, P3, T1, T2, V1, V2}
+use Rattle.lk_idle.proofs.Names.{is_unlocked, spin_row, none_lives}
+use Rattle.lk_names.specs.declared.names.Mode.TheVariants.{Virt}
+use Rattle.lk_rows.specs.rows.Spin.{is_free, to_queue, after_fast}
+use Rattle.lk_idle.proofs.{Branches.{Fine, pick, goes}, Leading.LeadsFine}
 
 module _ (p : ℕ) (f : Frame) (mode : Mode) (x : Fields) where
   queue : LeadsFine p none_lives f (Goes (to_queue x) [])

@@ -1,31 +1,21 @@
 -- What a row stores, on a machine whose dead registers are at rest.
-use Rattle.std.proofs.Common.{◌≡◌, ℕ, Option, Some, None, Bool, refl, sym, subst, ap, ◌∙◌, get_or, set}
-use Rattle.lk_names.specs.Lawful.{is_local}
-use Rattle.lk_names.specs.declared.names.LockName.{LockName}
-use Rattle.lk_word.specs.declared.spin_word.NodeName.{NodeName}
-use Rattle.lk_word.specs.declared.spin_word.Fields.{Fields}
-use Rattle.lk_word.specs.declared.rw_word.RwFields.{RwFields}
-use Rattle.lk_rows.specs.declared.parts.Flag.{Flag}
-use Rattle.lk_rows.specs.declared.parts.State.{State}
-use Rattle.lk_rows.specs.declared.parts.Frame.{Frame}
-use Rattle.lk_rows.specs.Machine.{Machine, CpuState, cpu_at, lock_at, node_at, queued_at}
-use Rattle.lk_rows.specs.Machine.{halted_at, kicked_at, frame_at, depth_at, top_frame}
-use Rattle.lk_rows.specs.Machine.{set_cpu, set_lock, set_word, set_rw, set_node, set_queued, set_entry}
-use Rattle.lk_rows.specs.Machine.{set_halted, set_kicked, rest_node}
-use Rattle.lk_rows.specs.Moves.{node_of}
-use Rattle.lk_rows.specs.Row.{Effect, applied}
-use Rattle.lk_rows.specs.rows.Cna.{Sight}
-use Rattle.lk_rows.specs.TopRow.{sight_at, stored_word, stored_rw, stored_flag, stored_next}
-use Rattle.lk_rows.specs.TopRow.{stored_second, stored_runs, stored_state, stored_entry}
-use Rattle.lk_rows.specs.TopRow.{stored_halted, stored_kicked, stored_queued}
-use Rattle.lk_rows.specs.TopRow.{on_word, on_rw, on_flag, on_next, on_second, on_runs, on_state}
-use Rattle.lk_rows.specs.TopRow.{on_entry, on_halted, on_kicked, on_queued}
-use Rattle.lk_idle.specs.declared.lives.Lives.{Lives}
-use Rattle.lk_idle.specs.Alike.{cut, rested, rested_cpu}
-use Rattle.lk_idle.proofs.Leading.{Alike, KnowsWay, applied-alike}
+use Rattle.std.proofs.Common.{◌≡◌, ℕ, Option, Some, None, Bool, refl, sym, subst, ap, ◌∙◌, get_or}
+use Rattle.std.proofs.Common.{set}
+use Rattle.lk_idle.proofs.Names.{RwFields, Fields, NodeName, CpuState, Machine, rest_node}
+use Rattle.lk_idle.proofs.Names.{top_frame, node_of, Effect, applied, sight_at, Flag, Frame, State}
+use Rattle.lk_idle.proofs.Names.{cut, rested, rested_cpu, Lives}
+use Rattle.lk_names.specs.{Lawful.is_local, declared.names.LockName.LockName}
+use Rattle.lk_rows.specs.Machine.{cpu_at, lock_at, node_at, queued_at, halted_at, kicked_at}
+use Rattle.lk_rows.specs.Machine.{frame_at, depth_at, set_cpu, set_lock, set_word, set_rw, set_node}
+use Rattle.lk_rows.specs.Machine.{set_queued, set_entry, set_halted, set_kicked}
+use Rattle.lk_rows.specs.TopRow.{stored_word, stored_rw, stored_flag, stored_next, stored_second}
+use Rattle.lk_rows.specs.TopRow.{stored_runs, stored_state, stored_entry, stored_halted}
+use Rattle.lk_rows.specs.TopRow.{stored_kicked, stored_queued, on_word, on_rw, on_flag, on_next}
+use Rattle.lk_rows.specs.TopRow.{on_second, on_runs, on_state, on_entry, on_halted, on_kicked}
+use Rattle.lk_rows.specs.{TopRow.on_queued, rows.Cna.Sight}
+use Rattle.lk_idle.proofs.{Branches.Fine, Leading.{Alike, KnowsWay, applied-alike}}
 use Rattle.lk_idle.proofs.Writes.{write-rested, top-write, node-rested, waiter-rested}
 use Rattle.lk_idle.proofs.Writes.{queued-rested, halted-rested, kicked-rested}
-use Rattle.lk_idle.proofs.Branches.{Fine}
 
 -- The store made n of m, and k of the same at rest: k is n at rest, and the newest frame is as before.
 pub record Stores (m n k : Machine) (p : ℕ) : Type 0 where

@@ -1,23 +1,19 @@
 -- What is read of a machine whose dead registers are at rest, and what is written to it.
-use Rattle.std.proofs.Common.{◌≡◌, ℕ, ◌+◌, ◌-◌, ◌≤◌, Bool, List, [], ◌∷◌}
-use Rattle.std.proofs.Common.{◌++◌, map, length, take, get_or, set, slice_get, position, inl, inr}
-use Rattle.std.proofs.Common.{ap, refl, sym, ◌∙◌, subst}
+use Rattle.std.proofs.Common.{◌≡◌, ℕ, ◌+◌, ◌-◌, ◌≤◌, Bool, List, [], ◌∷◌, ◌++◌, map, length, take}
+use Rattle.std.proofs.Common.{get_or, set, slice_get, position, inl, inr, ap, refl, sym, ◌∙◌, subst}
+use Rattle.std.proofs.lemmas.List.{length-map, length-set, get_or_past}
 use Rattle.std.specs.Prelude.{unwrap_or}
-use Rattle.std.proofs.lemmas.Bool.{cases_lt}
-use Rattle.std.proofs.lemmas.List.{length-map, length-set, set_past, get_or_past}
-use Rattle.lk_word.specs.declared.spin_word.NodeName.{NodeName}
-use Rattle.lk_rows.specs.declared.parts.Frame.{Frame}
-use Rattle.lk_rows.specs.declared.parts.Node.{Node}
-use Rattle.lk_rows.specs.Machine.{Machine, CpuState, cpu_at, node_at, frame_at, depth_at, queued_at}
-use Rattle.lk_rows.specs.Machine.{halted_at, kicked_at, preempted_at, handlers_at, top_frame}
-use Rattle.lk_rows.specs.Machine.{set_cpu, set_node, set_top, set_queued, set_halted, set_kicked}
-use Rattle.lk_rows.specs.Machine.{set_preempted, pop, push, rest_frame, rest_node, no_cpu}
-use Rattle.lk_rows.specs.Moves.{is_node, context_of, waiter_of}
+use Rattle.lk_idle.proofs.Names.{cases_lt, set_past, NodeName, CpuState, Machine, rest_frame}
+use Rattle.lk_idle.proofs.Names.{rest_node, top_frame, is_node, Frame, Node, rested, rested_cpu}
+use Rattle.lk_idle.proofs.Names.{rested_frame}
+use Rattle.lk_rows.specs.Machine.{cpu_at, node_at, frame_at, depth_at, queued_at, halted_at}
+use Rattle.lk_rows.specs.Machine.{kicked_at, preempted_at, handlers_at, set_cpu, set_node, set_top}
+use Rattle.lk_rows.specs.Machine.{set_queued, set_halted, set_kicked, set_preempted, pop, push}
+use Rattle.lk_rows.specs.{Machine.no_cpu, Moves.{context_of, waiter_of}}
 use Rattle.lk_core.proofs.Access.{cpu_part, cpu_same}
-use Rattle.lk_idle.specs.Alike.{rested, rested_cpu, rested_frame}
+use Rattle.lk_idle.proofs.Frames.{rested_twice}
 use Rattle.lk_idle.proofs.Lists.{get_or_mapped, set_mapped, slice_get_mapped, take_mapped}
 use Rattle.lk_idle.proofs.Lists.{push_mapped, position_mapped, put_there, mapped_twice}
-use Rattle.lk_idle.proofs.Frames.{rested_twice}
 
 -- what is read
 
