@@ -1,19 +1,14 @@
 -- What nobody reads of a machine, renamed, is what nobody reads of the renamed machine.
-use Rattle.std.proofs.Common.{◌≡◌, ℕ, Option, Some, None, Bool, true, false, List, [], ◌∷◌, map, length}
-use Rattle.std.proofs.Common.{zero, suc, ap, refl, sym, ◌∙◌}
-use Rattle.std.specs.Prelude.{◌||◌, if◌then◌else◌}
-use Rattle.std.proofs.lemmas.List.{length-map}
-use Rattle.lk_word.specs.declared.spin_word.NodeName.{NodeName}
-use Rattle.lk_rows.specs.declared.parts.Node.{Node}
-use Rattle.lk_rows.specs.declared.parts.Frame.{Frame}
-use Rattle.lk_rows.specs.Machine.{Machine, CpuState, cpu_at}
-use Rattle.lk_idle.specs.declared.lives.Lives.{Lives}
-use Rattle.lk_idle.specs.Lives.{lives_at}
-use Rattle.lk_idle.specs.Free.{freed, freed_cpu, freed_node, freed_nodes, is_owned, owns}
-use Rattle.lk_idle.specs.Alike.{bared, bared_cpu, cut, rested_cpu, rested_frame}
+use Rattle.std.proofs.Common.{◌≡◌, ℕ, Option, Some, None, Bool, true, false, List, [], ◌∷◌, map}
+use Rattle.std.proofs.Common.{length, zero, suc, ap, refl, sym, ◌∙◌, ◌||◌, if◌then◌else◌}
+use Rattle.lk_renaming.proofs.Names.{length-map, NodeName, CpuState, Machine, Frame, Node, renamed}
+use Rattle.lk_renaming.proofs.Names.{renamed_cpu, renamed_cpus, renamed_frame, renamed_link}
+use Rattle.lk_renaming.proofs.Names.{renamed_node, Renaming}
+use Rattle.lk_rows.specs.Machine.{cpu_at}
 use Rattle.lk_idle.proofs.Goes.{cpu-bared}
-use Rattle.lk_renaming.specs.Renaming.{Renaming}
-use Rattle.lk_renaming.specs.Renamed.{renamed, renamed_link, renamed_node, renamed_frame, renamed_cpu, renamed_cpus}
+use Rattle.lk_idle.specs.Alike.{bared, bared_cpu, cut, rested_cpu, rested_frame}
+use Rattle.lk_idle.specs.Free.{freed, freed_cpu, freed_node, freed_nodes, is_owned, owns}
+use Rattle.lk_idle.specs.{Lives.lives_at, declared.lives.Lives.Lives}
 use Rattle.lk_renaming.specs.Law.{AlikeStaysAlike}
 
 module _ (r : Renaming) where

@@ -1,18 +1,12 @@
 -- The rows in which a head chooses to whom it hands off, renamed.
-use Rattle.std.proofs.Common.{◌≡◌, ℕ, ◌+◌, Option, Some, None, true, [], refl}
-use Rattle.std.specs.Prelude.{◌&&◌, not, is_some, nat_lt, if◌then◌else◌}
-use Rattle.lk_word.specs.declared.spin_word.NodeName.{NodeName}
-use Rattle.lk_word.specs.declared.spin_word.Fields.{Fields}
-use Rattle.lk_rows.specs.declared.parts.Flag.{Flag}
-use Rattle.lk_rows.specs.declared.parts.Frame.{Frame}
-use Rattle.lk_rows.specs.declared.parts.Pc.{Pc}
-use Rattle.lk_rows.specs.declared.parts.Pc.TheVariants.{C1, C2, C3, C7, C8, C10}
-use Rattle.lk_rows.specs.Row.{Effect, Goes, Leaves, Nothing, Passes}
-use Rattle.lk_rows.specs.rows.Cna.{Sight, may_stay, search_row, second_row, runs_row, handover_row}
-use Rattle.lk_rows.specs.rows.Cna.{promotion_row, flag_for, is_held, is_last}
-use Rattle.lk_renaming.specs.Renaming.{Renaming, IsRenaming}
-use Rattle.lk_renaming.specs.Renamed.{renamed_name, renamed_link, renamed_word, renamed_flag, renamed_frame}
-use Rattle.lk_renaming.specs.Named.{AreNames, names_at}
+use Rattle.std.proofs.Common.{◌≡◌, ℕ, ◌+◌, Option, Some, None, true, [], refl, ◌&&◌, not, is_some}
+use Rattle.std.proofs.Common.{nat_lt, if◌then◌else◌}
+use Rattle.lk_renaming.proofs.Names.{Fields, NodeName, Effect, Goes, Leaves, Nothing, Passes, Flag}
+use Rattle.lk_renaming.proofs.Names.{Frame, Pc, C1, C2, C3, C7, C8, C10, handover_row, is_held}
+use Rattle.lk_renaming.proofs.Names.{is_last, promotion_row, runs_row, search_row, second_row}
+use Rattle.lk_renaming.proofs.Names.{AreNames, names_at, renamed_flag, renamed_frame, renamed_link}
+use Rattle.lk_renaming.proofs.Names.{renamed_name, renamed_word, IsRenaming, Renaming}
+use Rattle.lk_rows.specs.rows.Cna.{Sight, may_stay, flag_for}
 use Rattle.lk_renaming.proofs.Effects.{renamed_effect, choose, some-renamed, named}
 use Rattle.lk_renaming.proofs.QueueRows.{tail-renamed}
 

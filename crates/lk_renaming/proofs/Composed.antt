@@ -1,21 +1,16 @@
 -- One renaming after another, and back.
-use Rattle.std.proofs.Common.{◌≡◌, ℕ, ◌<◌, ◌+◌, Option, Some, None, List, [], ◌∷◌, map, length, get_or}
-use Rattle.std.proofs.Common.{zero, suc, ap, refl, sym, ◌∙◌, subst, arith}
+use Rattle.std.proofs.Common.{◌≡◌, ℕ, ◌<◌, ◌+◌, Option, Some, None, List, [], ◌∷◌, map, length}
+use Rattle.std.proofs.Common.{get_or, zero, suc, ap, refl, sym, ◌∙◌, subst, arith}
 use Rattle.std.proofs.lemmas.List.{ext_get_or}
-use Rattle.lk_word.specs.declared.spin_word.NodeName.{NodeName}
-use Rattle.lk_names.specs.declared.names.LockName.{LockName}
-use Rattle.lk_rows.specs.declared.parts.Flag.{Flag}
-use Rattle.lk_rows.specs.declared.parts.Flag.TheVariants as flag
-use Rattle.lk_rows.specs.declared.parts.Node.{Node}
-use Rattle.lk_rows.specs.declared.parts.Frame.{Frame}
-use Rattle.lk_rows.specs.declared.setup.Setup.{Setup}
-use Rattle.lk_rows.specs.Programs.{program_at, handlers_of}
-use Rattle.lk_rows.specs.Machine.{Machine, CpuState, LockState, cpu_at, no_cpu}
-use Rattle.lk_renaming.specs.Renaming.{Renaming, IsRenaming, IsAmongAlike, composed, reversed}
-use Rattle.lk_renaming.specs.Renamed.{renamed, renamed_link, renamed_flag, renamed_node}
-use Rattle.lk_renaming.specs.Renamed.{renamed_frame, renamed_cpu, renamed_cpus, renamed_lock, renamed_entry}
-use Rattle.lk_renaming.specs.Law.{RenamingsCompose, RenamedTwice, RenamedBack}
+use Rattle.lk_renaming.proofs.Names.{NodeName, LockName, CpuState, Machine, no_cpu, Flag, Frame}
+use Rattle.lk_renaming.proofs.Names.{Node, Setup, renamed, renamed_cpu, renamed_cpus, renamed_flag}
+use Rattle.lk_renaming.proofs.Names.{renamed_frame, renamed_link, renamed_lock, renamed_node}
+use Rattle.lk_renaming.proofs.Names.{IsAmongAlike, IsRenaming, Renaming}
+use Rattle.lk_rows.specs.{Machine.{LockState, cpu_at}, Programs.{program_at, handlers_of}}
 use Rattle.lk_renaming.proofs.Cpus.{back_others, cpu-back, cpus-renamed, cpus_each, cpus_long}
+use Rattle.lk_renaming.specs.Law.{RenamingsCompose, RenamedTwice, RenamedBack}
+use Rattle.lk_renaming.specs.{Renamed.renamed_entry, Renaming.{composed, reversed}}
+use Rattle.lk_rows.specs.declared.parts.Flag.TheVariants as flag
 
 -- what each item becomes, all do
 each_same : {A B C : Type 0} (g : B → C) (f : A → B) (h : A → C) → ((x : A) → g (f x) ≡ h x) → (xs : List A)

@@ -1,11 +1,12 @@
 -- What is read of a renamed machine, and what is written to a processor of it.
-use Rattle.std.proofs.Common.{◌≡◌, ℕ, ◌<◌, ◌≤◌, ◌+◌}
-use Rattle.std.proofs.Common.{zero, suc, length, get_or, set, inl, inr, ap, refl, sym, ◌∙◌, subst, arith}
+use Rattle.std.proofs.Common.{◌≡◌, ℕ, ◌<◌, ◌≤◌, ◌+◌, zero, suc, length, get_or, set, inl, inr, ap}
+use Rattle.std.proofs.Common.{refl, sym, ◌∙◌, subst, arith}
 use Rattle.std.proofs.lemmas.Bool.{cases_lt, cases_eq}
-use Rattle.std.proofs.lemmas.List.{length-set, get_or_past, get_or-set_same, get_or-set_other, ext_get_or}
-use Rattle.lk_rows.specs.Machine.{Machine, CpuState, cpu_at, set_cpu, no_cpu}
-use Rattle.lk_renaming.specs.Renaming.{Renaming, IsRenaming}
-use Rattle.lk_renaming.specs.Renamed.{renamed, renamed_cpu, renamed_cpus}
+use Rattle.std.proofs.lemmas.List.{length-set, get_or_past, get_or-set_same, get_or-set_other}
+use Rattle.std.proofs.lemmas.List.{ext_get_or}
+use Rattle.lk_renaming.proofs.Names.{CpuState, Machine, no_cpu, renamed, renamed_cpu, renamed_cpus}
+use Rattle.lk_renaming.proofs.Names.{IsRenaming, Renaming}
+use Rattle.lk_rows.specs.Machine.{cpu_at, set_cpu}
 
 -- the numbers of a renaming
 module _ (r : Renaming) (n : ℕ) (is : IsRenaming n r) where

@@ -1,14 +1,13 @@
 -- What a row does, renamed; and the tests that rows make of names.
-use Rattle.std.proofs.Common.{◌≡◌, ℕ, Option, Some, None, Bool, true, false, map, inl, inr}
-use Rattle.std.proofs.Common.{ap, refl, sym, ◌∙◌, eq-eqb, ne_eqb}
-use Rattle.std.specs.Prelude.{if◌then◌else◌, ◌==◌, ◌&&◌, is_some, option_map}
+use Rattle.std.proofs.Common.{◌≡◌, ℕ, Option, Some, None, Bool, true, false, map, inl, inr, ap}
+use Rattle.std.proofs.Common.{refl, sym, ◌∙◌, eq-eqb, ne_eqb, if◌then◌else◌, ◌==◌, ◌&&◌, is_some}
+use Rattle.std.proofs.Common.{option_map}
 use Rattle.std.proofs.lemmas.Bool.{cases_eq}
-use Rattle.lk_word.specs.declared.spin_word.NodeName.{NodeName}
-use Rattle.lk_rows.specs.Moves.{is_node, node_of}
-use Rattle.lk_rows.specs.Row.{Change, Prev, Second, Y, A, B, T, TargetIs, Lead, Goes, Enters, Yields}
-use Rattle.lk_rows.specs.Row.{Tell, Says, Passes, Effect}
-use Rattle.lk_renaming.specs.Renaming.{Renaming, IsRenaming}
-use Rattle.lk_renaming.specs.Renamed.{renamed_name, renamed_link, renamed_what}
+use Rattle.lk_renaming.proofs.Names.{NodeName, is_node, node_of, A, B, Change, Effect, Enters, Goes}
+use Rattle.lk_renaming.proofs.Names.{Lead, Passes, Prev, Says, Second, T, TargetIs, Y, Yields}
+use Rattle.lk_renaming.proofs.Names.{renamed_link, renamed_name, IsRenaming, Renaming}
+use Rattle.lk_rows.specs.Row.{Tell}
+use Rattle.lk_renaming.specs.Renamed.{renamed_what}
 
 -- effects
 

@@ -1,27 +1,21 @@
 -- The renamed act on the renamed machine does what the act does, renamed.
 use Rattle.std.proofs.Common.{◌≡◌, ℕ, ◌+◌, Some, None, Bool, true, false, ap, refl, ◌∙◌}
-use Rattle.std.specs.Prelude.{if◌then◌else◌, ◌||◌, ◌&&◌, not, nat_le}
+use Rattle.std.proofs.Common.{if◌then◌else◌, ◌||◌, ◌&&◌, not, nat_le}
+use Rattle.lk_renaming.proofs.Names.{Machine, rest_frame, top_frame, settled, Answer, Frame}
+use Rattle.lk_renaming.proofs.Names.{HasNames, renamed, renamed_answer, IsAmongAlike, Renaming}
+use Rattle.lk_rows.specs.Acts.{after_halt, woken, kicked_awake, step, is_shut, stands_halting}
+use Rattle.lk_rows.specs.Acts.{handler_frame, awake, interrupted, nudged}
+use Rattle.lk_rows.specs.Machine.{preempted_at, halted_at, kicked_at, set_cpu, set_top, set_halted}
+use Rattle.lk_rows.specs.Machine.{set_kicked, set_preempted, push}
+use Rattle.lk_renaming.proofs.{Effects.choose, Leading.settled-renamed, Rows.row-renamed}
+use Rattle.lk_renaming.proofs.Writes.{Renames, top-renamed, depth-renamed, preempted-renamed}
+use Rattle.lk_renaming.proofs.Writes.{halted-renamed, kicked-renamed, handlers-renamed}
+use Rattle.lk_renaming.proofs.Writes.{set_top-renamed, set_halted-renamed, set_kicked-renamed}
+use Rattle.lk_renaming.proofs.Writes.{set_preempted-renamed, push-renamed, top_kept, halted_kept}
+use Rattle.lk_renaming.proofs.Writes.{push_kept}
+use Rattle.lk_renaming.specs.Law.{RenamedGoesOn, RenamedStands}
 use Rattle.lk_names.specs.declared.events.Act.TheVariants as act
 use Rattle.lk_names.specs.declared.events.What.TheVariants as what
-use Rattle.lk_rows.specs.declared.parts.Frame.{Frame}
-use Rattle.lk_rows.specs.Machine.{Machine, top_frame, preempted_at, halted_at, kicked_at}
-use Rattle.lk_rows.specs.Machine.{set_cpu, set_top, set_halted, set_kicked, set_preempted}
-use Rattle.lk_rows.specs.Machine.{push, rest_frame}
-use Rattle.lk_rows.specs.Moves.{settled}
-use Rattle.lk_rows.specs.Row.{Answer}
-use Rattle.lk_rows.specs.Acts.{after_halt, woken, kicked_awake, step, is_shut}
-use Rattle.lk_rows.specs.Acts.{stands_halting, handler_frame, awake, interrupted, nudged}
-use Rattle.lk_renaming.specs.Renaming.{Renaming, IsAmongAlike}
-use Rattle.lk_renaming.specs.Renamed.{renamed, renamed_answer}
-use Rattle.lk_renaming.specs.Named.{HasNames}
-use Rattle.lk_renaming.specs.Law.{RenamedGoesOn, RenamedStands}
-use Rattle.lk_renaming.proofs.Effects.{choose}
-use Rattle.lk_renaming.proofs.Writes.{Renames, top-renamed, depth-renamed, preempted-renamed, halted-renamed}
-use Rattle.lk_renaming.proofs.Writes.{kicked-renamed, handlers-renamed, set_top-renamed, set_halted-renamed}
-use Rattle.lk_renaming.proofs.Writes.{set_kicked-renamed, set_preempted-renamed, push-renamed, top_kept}
-use Rattle.lk_renaming.proofs.Writes.{halted_kept, push_kept}
-use Rattle.lk_renaming.proofs.Leading.{settled-renamed}
-use Rattle.lk_renaming.proofs.Rows.{row-renamed}
 
 module _ (r : Renaming) (m : Machine) (is : Renames r m) (alike : IsAmongAlike m.setup r) (p : ℕ) where
   abbrev answer : Answer → Answer

@@ -1,32 +1,20 @@
 -- Registers that hold a name which a later row takes, in every frame of a machine.
-use Rattle.std.proofs.Common.{ℕ, ◌-◌, Option, Some, None, Bool, List, [], ◌∷◌, ◌++◌}
-use Rattle.std.proofs.Common.{length, take, get_or, set, slice_get, zero, suc}
+use Rattle.std.proofs.Common.{ℕ, ◌-◌, Option, Some, None, Bool, List, [], ◌∷◌, ◌++◌, length, take}
+use Rattle.std.proofs.Common.{get_or, set, slice_get, zero, suc}
 use Rattle.std.specs.Prelude.{unwrap_or}
-use Rattle.lk_names.specs.declared.names.Mode.{Mode}
-use Rattle.lk_names.specs.declared.names.Mode.TheVariants.{Virt, Native, Cna, Pv}
-use Rattle.lk_names.specs.declared.names.LockName.{LockName}
-use Rattle.lk_word.specs.declared.spin_word.NodeName.{NodeName}
-use Rattle.lk_word.specs.declared.spin_word.Fields.{Fields}
-use Rattle.lk_word.specs.declared.rw_word.RwFields.{RwFields}
-use Rattle.lk_rows.specs.declared.setup.Verb.{Verb}
-use Rattle.lk_rows.specs.declared.setup.Verb.TheVariants.{Unlock}
-use Rattle.lk_rows.specs.declared.parts.Flag.{Flag}
-use Rattle.lk_rows.specs.declared.parts.State.{State}
-use Rattle.lk_rows.specs.declared.parts.Node.{Node}
-use Rattle.lk_rows.specs.declared.parts.Frame.{Frame}
-use Rattle.lk_rows.specs.declared.parts.Pc.{Pc}
-use Rattle.lk_rows.specs.declared.parts.Pc.TheVariants.{C3, C4, C5, C6, C7, C8, C9, U4, U5}
-use Rattle.lk_rows.specs.declared.parts.Why.{Why}
-use Rattle.lk_rows.specs.declared.parts.Why.TheVariants as why
-use Rattle.lk_rows.specs.Machine.{Machine, CpuState, cpu_at, frame_at, depth_at, top_frame, set_cpu}
-use Rattle.lk_rows.specs.Machine.{set_lock, set_word, set_rw, set_node, set_top, set_queued, set_preempted}
-use Rattle.lk_rows.specs.Machine.{set_halted, set_kicked, set_entry, set_counts, pop, push, rest_frame, no_cpu}
-use Rattle.lk_rows.specs.Moves.{first_place}
-use Rattle.lk_rows.specs.Row.{Counter, counted}
+use Rattle.lk_renaming.proofs.Names.{RwFields, Fields, NodeName, LockName, Mode, Pv, Virt, CpuState}
+use Rattle.lk_renaming.proofs.Names.{Machine, no_cpu, rest_frame, top_frame, counted, Flag, Frame}
+use Rattle.lk_renaming.proofs.Names.{Node, Pc, C3, C4, C5, C6, C7, C8, C9, U4, U5, State, AreNames}
+use Rattle.lk_names.specs.declared.names.Mode.TheVariants.{Native, Cna}
+use Rattle.lk_rows.specs.Machine.{cpu_at, frame_at, depth_at, set_cpu, set_lock, set_word, set_rw}
+use Rattle.lk_rows.specs.Machine.{set_node, set_top, set_queued, set_preempted, set_halted}
+use Rattle.lk_rows.specs.{Machine.{set_kicked, set_entry, set_counts, pop, push}, Moves.first_place}
+use Rattle.lk_rows.specs.Row.{Counter}
 use Rattle.lk_rows.specs.TopRow.{stored_word, stored_rw, stored_flag, stored_next, stored_second}
-use Rattle.lk_rows.specs.TopRow.{stored_runs, stored_state, stored_entry, stored_halted, stored_kicked}
-use Rattle.lk_rows.specs.TopRow.{stored_queued}
-use Rattle.lk_renaming.specs.Named.{AreNames}
+use Rattle.lk_rows.specs.TopRow.{stored_runs, stored_state, stored_entry, stored_halted}
+use Rattle.lk_rows.specs.{TopRow.{stored_kicked, stored_queued}, declared.parts.Why.Why}
+use Rattle.lk_rows.specs.{declared.setup.Verb.Verb, declared.setup.Verb.TheVariants.Unlock}
+use Rattle.lk_rows.specs.declared.parts.Why.TheVariants as why
 
 -- frames
 

@@ -1,53 +1,50 @@
 -- Every act keeps the registers filled that later rows take as names, and in a sound machine each row has the names that it takes.
-use Rattle.std.proofs.Common.{◌≡◌, ℕ, ◌+◌, ◌-◌, Option, Some, None, Bool, true, false, List, [], ◌∷◌}
-use Rattle.std.proofs.Common.{ap, refl, sym, ◌∙◌, subst, slice_get}
-use Rattle.std.specs.Prelude.{if◌then◌else◌, ◌==◌, is_some, not, ◌||◌, unwrap_or}
-use Rattle.lk_names.specs.declared.names.Waiter.{Waiter}
-use Rattle.lk_names.specs.declared.events.Act.{Act}
-use Rattle.lk_names.specs.declared.events.Act.TheVariants as act
-use Rattle.lk_word.specs.declared.spin_word.NodeName.{NodeName}
-use Rattle.lk_rows.specs.declared.setup.Op.{Op}
-use Rattle.lk_rows.specs.declared.parts.Frame.{Frame}
-use Rattle.lk_rows.specs.declared.parts.Pc.{Pc}
-use Rattle.lk_rows.specs.declared.parts.Pc.TheVariants.{G5, G6, G7, G8, G10, G11, C1, C2, C3, C4, C5, C6}
-use Rattle.lk_rows.specs.declared.parts.Pc.TheVariants.{C7, C8, C9, C10, W1, W2, W3, W4, W5, W6, W7, E1, E2}
-use Rattle.lk_rows.specs.declared.parts.Pc.TheVariants.{E10, E12, E13, E14, E15, K1, K3, E6, E9, U3, U4, U5}
-use Rattle.lk_rows.specs.Machine.{Machine, top_frame, top_of, frame_at, node_at, entry_at, word_at, rw_at}
-use Rattle.lk_rows.specs.Machine.{queued_at, halted_at, kicked_at, preempted_at, set_node, set_top, pop}
-use Rattle.lk_rows.specs.Machine.{push, rest_frame, rest_node}
-use Rattle.lk_rows.specs.Moves.{node_of, program_of, started, settled_at, settled, done, granted}
-use Rattle.lk_rows.specs.Moves.{skipped, leave, waiting}
-use Rattle.lk_rows.specs.Row.{Change, Prev, Second, Y, Left, A, B, K, T, Reason, Tailed, HashedIs, TargetIs}
-use Rattle.lk_rows.specs.Row.{Effect, Lead, Goes, Enters, Granted, Freed, Missed, Done, TakesWait, Leaves}
-use Rattle.lk_rows.specs.Row.{Yields, moved, counted, with_change, changed_all, gone, entered, applied, Answer}
+use Rattle.std.proofs.Common.{◌≡◌, ℕ, ◌+◌, ◌-◌, Option, Some, None, Bool, true, false, List, []}
+use Rattle.std.proofs.Common.{◌∷◌, ap, refl, sym, ◌∙◌, subst, slice_get, if◌then◌else◌, ◌==◌}
+use Rattle.std.proofs.Common.{is_some, not, ◌||◌}
+use Rattle.std.specs.Prelude.{unwrap_or}
+use Rattle.lk_renaming.proofs.Names.{NodeName, Machine, rest_frame, rest_node, top_frame, node_of}
+use Rattle.lk_renaming.proofs.Names.{settled, A, Answer, B, Change, Done, Effect, Enters, Freed}
+use Rattle.lk_renaming.proofs.Names.{Goes, Granted, Lead, Leaves, Missed, Prev, Second, T, Tailed}
+use Rattle.lk_renaming.proofs.Names.{TakesWait, TargetIs, Y, Yields, applied, counted, entered}
+use Rattle.lk_renaming.proofs.Names.{gone, Frame, Pc, C1, C2, C3, C4, C5, C6, C7, C8, C9, C10, E1}
+use Rattle.lk_renaming.proofs.Names.{E2, E6, E10, E13, E14, E15, G5, G6, G7, G8, G10, G11, K1, U4}
+use Rattle.lk_renaming.proofs.Names.{U5, W1, W2, W4, W5, W6, W7, Op, handover_row, promotion_row}
+use Rattle.lk_renaming.proofs.Names.{runs_row, search_row, second_row, halt_row, hash_row, kick_row}
+use Rattle.lk_renaming.proofs.Names.{pv_flag_row, pv_next_row, pv_row, state_row, entry_row}
+use Rattle.lk_renaming.proofs.Names.{flag_row, next_row, queue_row, rw_row, spin_row, AreNames}
+use Rattle.lk_renaming.proofs.Names.{HasNames, names_at}
+use Rattle.lk_names.specs.{declared.events.Act.Act, declared.names.Waiter.Waiter}
+use Rattle.lk_rows.specs.Acts.{after_halt, idle, woken, kicked_awake, step, is_shut, handler_frame}
+use Rattle.lk_rows.specs.Acts.{awake, interrupted, next}
+use Rattle.lk_rows.specs.Machine.{top_of, frame_at, node_at, entry_at, word_at, rw_at, queued_at}
+use Rattle.lk_rows.specs.Machine.{halted_at, kicked_at, preempted_at, set_node, set_top, pop, push}
+use Rattle.lk_rows.specs.Moves.{program_of, started, settled_at, done, granted, skipped, leave}
+use Rattle.lk_rows.specs.Moves.{waiting}
+use Rattle.lk_rows.specs.Row.{Left, K, Reason, HashedIs, moved, with_change, changed_all}
 use Rattle.lk_rows.specs.TopRow.{Target, SpinWord, QueueWord, Queued, FlagOf, NextOf, ChoiceWord}
-use Rattle.lk_rows.specs.TopRow.{ChoiceFlag, ChoiceNext, SecondTailOf, RunsOf, PvWord, PvFlag, PvNext}
-use Rattle.lk_rows.specs.TopRow.{StateOf, HashEntry, Halted, KickOf, RwWord, target, sight_at, row_on}
-use Rattle.lk_rows.specs.TopRow.{row_at, row}
-use Rattle.lk_rows.specs.rows.Spin.{spin_row}
-use Rattle.lk_rows.specs.rows.Queue.{queue_row, entry_row, flag_row, next_row}
-use Rattle.lk_rows.specs.rows.Cna.{search_row, second_row, runs_row, handover_row, promotion_row}
-use Rattle.lk_rows.specs.rows.Pv.{pv_row, pv_flag_row, pv_next_row, state_row, hash_row, halt_row, kick_row}
-use Rattle.lk_rows.specs.rows.Rw.{rw_row}
-use Rattle.lk_rows.specs.Acts.{after_halt, idle, woken, kicked_awake, step, is_shut, handler_frame, awake, interrupted}
-use Rattle.lk_rows.specs.Acts.{next}
-use Rattle.lk_law.specs.Phase.{has_node}
-use Rattle.lk_law.specs.Places.{phase_at, phase_if}
-use Rattle.lk_law.specs.Registers.{ChoiceFits, RegistersFit}
-use Rattle.lk_law.specs.Sound.{IsSound, world}
-use Rattle.lk_law.proofs.common.Knows.{row_knows}
-use Rattle.lk_law.proofs.cna.Named.{second_tail_is_used}
-use Rattle.lk_renaming.specs.Named.{AreNames, HasNames, names_at}
+use Rattle.lk_rows.specs.TopRow.{ChoiceFlag, ChoiceNext, SecondTailOf, RunsOf, PvWord, PvFlag}
+use Rattle.lk_rows.specs.TopRow.{PvNext, StateOf, HashEntry, Halted, KickOf, RwWord, target}
+use Rattle.lk_rows.specs.TopRow.{sight_at, row_on, row_at, row}
+use Rattle.lk_rows.specs.declared.parts.Pc.TheVariants.{W3, E12, K3, E9, U3}
+use Rattle.lk_law.proofs.{cna.Named.second_tail_is_used, common.Knows.row_knows}
+use Rattle.lk_law.specs.{Phase.has_node, Places.{phase_at, phase_if}}
+use Rattle.lk_law.specs.{Registers.{ChoiceFits, RegistersFit}, Sound.{IsSound, world}}
 use Rattle.lk_renaming.proofs.Later.{LaterAt, Quiet, FrameNamed, AllNamed, later_at, first_quiet}
-use Rattle.lk_renaming.proofs.Later.{newest_named, set_top-named, pop-named, push-named, set_node-named}
-use Rattle.lk_renaming.proofs.Later.{set_queued-named, set_preempted-named, set_halted-named, set_kicked-named}
-use Rattle.lk_renaming.proofs.Later.{counted-named, word-named, rw-named, entry-named, flag-named, link-named}
-use Rattle.lk_renaming.proofs.Later.{second-named, runs-named, state-named, halted-named, kicked-named, queued-named}
-use Rattle.lk_renaming.proofs.LaterRows.{LeadNamed, spin_row-named, queue_row-named, entry_row-named, flag_row-named}
-use Rattle.lk_renaming.proofs.LaterRows.{next_row-named, search_row-named, second_row-named, runs_row-named}
-use Rattle.lk_renaming.proofs.LaterRows.{handover_row-named, promotion_row-named, pv_row-named, pv_flag_row-named}
-use Rattle.lk_renaming.proofs.LaterRows.{pv_next_row-named, state_row-named, hash_row-named, halt_row-named}
-use Rattle.lk_renaming.proofs.LaterRows.{kick_row-named, rw_row-named}
+use Rattle.lk_renaming.proofs.Later.{newest_named, set_top-named, pop-named, push-named}
+use Rattle.lk_renaming.proofs.Later.{set_node-named, set_queued-named, set_preempted-named}
+use Rattle.lk_renaming.proofs.Later.{set_halted-named, set_kicked-named, counted-named, word-named}
+use Rattle.lk_renaming.proofs.Later.{rw-named, entry-named, flag-named, link-named, second-named}
+use Rattle.lk_renaming.proofs.Later.{runs-named, state-named, halted-named, kicked-named}
+use Rattle.lk_renaming.proofs.Later.{queued-named}
+use Rattle.lk_renaming.proofs.LaterRows.{LeadNamed, spin_row-named, queue_row-named}
+use Rattle.lk_renaming.proofs.LaterRows.{entry_row-named, flag_row-named, next_row-named}
+use Rattle.lk_renaming.proofs.LaterRows.{search_row-named, second_row-named, runs_row-named}
+use Rattle.lk_renaming.proofs.LaterRows.{handover_row-named, promotion_row-named, pv_row-named}
+use Rattle.lk_renaming.proofs.LaterRows.{pv_flag_row-named, pv_next_row-named, state_row-named}
+use Rattle.lk_renaming.proofs.LaterRows.{hash_row-named, halt_row-named, kick_row-named}
+use Rattle.lk_renaming.proofs.LaterRows.{rw_row-named}
+use Rattle.lk_names.specs.declared.events.Act.TheVariants as act
 
 -- a frame goes on
 

@@ -1,40 +1,31 @@
 -- Where each row leads, the registers that later rows take as names are filled.
 use Rattle.std.proofs.Common.{◌≡◌, ℕ, ◌-◌, Option, Some, None, Bool, true, false, [], ◌∷◌, refl}
-use Rattle.std.specs.Prelude.{◌&&◌, ◌==◌, not, is_some, if◌then◌else◌}
-use Rattle.lk_names.specs.declared.names.Mode.{Mode}
-use Rattle.lk_names.specs.declared.names.Mode.TheVariants.{Virt, Cna, Pv}
-use Rattle.lk_word.specs.declared.spin_word.NodeName.{NodeName}
-use Rattle.lk_word.specs.declared.spin_word.Fields.{Fields}
-use Rattle.lk_word.specs.declared.rw_word.RwFields.{RwFields}
-use Rattle.lk_rows.specs.declared.setup.Verb.TheVariants.{Unlock}
-use Rattle.lk_rows.specs.declared.parts.Flag.{Flag}
-use Rattle.lk_rows.specs.declared.parts.Flag.TheVariants as flag
-use Rattle.lk_rows.specs.declared.parts.State.{State}
-use Rattle.lk_rows.specs.declared.parts.Frame.{Frame}
-use Rattle.lk_rows.specs.declared.parts.Why.{Why}
-use Rattle.lk_rows.specs.declared.parts.Why.TheVariants as why
-use Rattle.lk_rows.specs.declared.parts.Pc.{Pc}
-use Rattle.lk_rows.specs.declared.parts.Pc.TheVariants.{F1, T1, T2, V1, V2, P0, P1, P3, P4}
-use Rattle.lk_rows.specs.declared.parts.Pc.TheVariants.{G2, G3, G4, G5, G6, G7, G8, G9, G10, G11, N1, N2}
-use Rattle.lk_rows.specs.declared.parts.Pc.TheVariants.{C1, C2, C3, C4, C5, C7, C8, C9, C10, H1, H2}
-use Rattle.lk_rows.specs.declared.parts.Pc.TheVariants.{W1, W2, W4, W5, W6, W7, E1, E2, E4, E5, E6, E7}
-use Rattle.lk_rows.specs.declared.parts.Pc.TheVariants.{E10, E11, E12, E13, E14, K1, K3, U2, U3, U5}
-use Rattle.lk_rows.specs.declared.parts.Pc.TheVariants.{R1, R2, R3, R5, Wr1, Wr2, Wr3, Wr4, Wr5, Wr6}
-use Rattle.lk_rows.specs.declared.parts.Pc.TheVariants.{Y1, Y2, Y4, Y5}
-use Rattle.lk_rows.specs.Moves.{is_node, node_of}
-use Rattle.lk_rows.specs.Row.{T, Effect, Lead, Goes, Enters, Granted, Freed, Missed, Done, TakesWait}
-use Rattle.lk_rows.specs.Row.{Leaves, Yields, gone, entered}
-use Rattle.lk_rows.specs.rows.Spin.{spin_row, is_free, is_unlocked, to_queue, after_fast}
-use Rattle.lk_rows.specs.rows.Queue.{queue_row, entry_row, flag_row, next_row, own_node, after_entry}
-use Rattle.lk_rows.specs.rows.Queue.{after_arrival, is_sole, after_head, after_link}
-use Rattle.lk_rows.specs.rows.Cna.{Sight, may_stay, after_none, after_tail, search_row, second_row, runs_row}
-use Rattle.lk_rows.specs.rows.Cna.{handover_row, promotion_row, is_held, is_last}
-use Rattle.lk_rows.specs.rows.Pv.{pv_row, pv_flag_row, pv_next_row, state_row, hash_row, halt_row, kick_row}
+use Rattle.std.proofs.Common.{◌&&◌, ◌==◌, not, is_some, if◌then◌else◌}
+use Rattle.lk_renaming.proofs.Names.{RwFields, Fields, NodeName, Mode, Pv, Virt, is_node, node_of}
+use Rattle.lk_renaming.proofs.Names.{Done, Effect, Enters, Freed, Goes, Granted, Lead, Leaves}
+use Rattle.lk_renaming.proofs.Names.{Missed, T, TakesWait, Yields, entered, gone, Flag, Frame, Pc}
+use Rattle.lk_renaming.proofs.Names.{C1, C2, C3, C4, C5, C7, C8, C9, C10, E1, E2, E6, E10, E13, E14}
+use Rattle.lk_renaming.proofs.Names.{G5, G6, G7, G8, G10, G11, K1, U5, W1, W2, W4, W5, W6, W7}
+use Rattle.lk_renaming.proofs.Names.{State, handover_row, is_held, is_last, promotion_row, runs_row}
+use Rattle.lk_renaming.proofs.Names.{search_row, second_row, halt_row, hash_row, kick_row}
+use Rattle.lk_renaming.proofs.Names.{pv_flag_row, pv_next_row, pv_row, state_row, entry_row}
+use Rattle.lk_renaming.proofs.Names.{flag_row, next_row, queue_row, rw_row, is_free, is_unlocked}
+use Rattle.lk_renaming.proofs.Names.{spin_row, AreNames}
+use Rattle.lk_names.specs.declared.names.Mode.TheVariants.{Cna}
+use Rattle.lk_rows.specs.declared.parts.Pc.TheVariants.{F1, T1, T2, V1, V2, P0, P1, P3, P4, G2, G3}
+use Rattle.lk_rows.specs.declared.parts.Pc.TheVariants.{G4, G9, N1, N2, H1, H2, E4, E5, E7, E11}
+use Rattle.lk_rows.specs.declared.parts.Pc.TheVariants.{E12, K3, U2, U3, R1, R2, R3, R5, Wr1, Wr2}
+use Rattle.lk_rows.specs.declared.parts.Pc.TheVariants.{Wr3, Wr4, Wr5, Wr6, Y1, Y2, Y4, Y5}
+use Rattle.lk_rows.specs.{declared.parts.Why.Why, declared.setup.Verb.TheVariants.Unlock}
+use Rattle.lk_rows.specs.rows.Cna.{Sight, may_stay, after_none, after_tail}
 use Rattle.lk_rows.specs.rows.Pv.{after_given_up, is_set, is_running, is_halted, is_slow_byte}
-use Rattle.lk_rows.specs.rows.Rw.{rw_row, is_empty, is_open, is_cleared}
+use Rattle.lk_rows.specs.rows.Queue.{own_node, after_entry, after_arrival, is_sole, after_head}
+use Rattle.lk_rows.specs.{rows.Queue.after_link, rows.Rw.{is_empty, is_open, is_cleared}}
+use Rattle.lk_rows.specs.rows.Spin.{to_queue, after_fast}
 use Rattle.lk_law.specs.Registers.{ChoiceFits}
-use Rattle.lk_renaming.specs.Named.{AreNames}
 use Rattle.lk_renaming.proofs.Later.{Quiet, LaterAt, later_at, later_why, first_quiet}
+use Rattle.lk_rows.specs.declared.parts.Flag.TheVariants as flag
+use Rattle.lk_rows.specs.declared.parts.Why.TheVariants as why
 
 -- the frame that the lead makes of f has them
 abbrev pub LeadNamed : Frame → Lead → Type 0

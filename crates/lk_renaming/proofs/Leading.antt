@@ -1,28 +1,25 @@
 -- Where a row leads, renamed.
-use Rattle.std.proofs.Common.{◌≡◌, ℕ, ◌+◌, ◌-◌, Option, Some, None, List, [], ◌∷◌}
-use Rattle.std.proofs.Common.{map, ap, refl, ◌∙◌, slice_get}
-use Rattle.std.specs.Prelude.{if◌then◌else◌, ◌==◌, drop}
-use Rattle.std.proofs.Common.{suc}
+use Rattle.std.proofs.Common.{◌≡◌, ℕ, ◌+◌, ◌-◌, Option, Some, None, List, [], ◌∷◌, map, ap, refl}
+use Rattle.std.proofs.Common.{◌∙◌, slice_get, if◌then◌else◌, ◌==◌, drop, suc}
+use Rattle.lk_renaming.proofs.Names.{Machine, rest_node, top_frame, settled, A, B, Change, Done}
+use Rattle.lk_renaming.proofs.Names.{Effect, Enters, Freed, Goes, Granted, Lead, Leaves, Missed}
+use Rattle.lk_renaming.proofs.Names.{Nothing, Passes, Prev, Says, Second, T, Tailed, TakesWait}
+use Rattle.lk_renaming.proofs.Names.{TargetIs, Y, Yields, applied, counted, entered, gone, Frame}
+use Rattle.lk_renaming.proofs.Names.{Pc, Op, renamed, renamed_answer, renamed_frame, IsAmongAlike}
+use Rattle.lk_renaming.proofs.Names.{Renaming}
 use Rattle.lk_names.specs.declared.events.What.TheVariants.{Pass}
-use Rattle.lk_rows.specs.declared.setup.Op.{Op}
-use Rattle.lk_rows.specs.declared.parts.Frame.{Frame}
-use Rattle.lk_rows.specs.declared.parts.Pc.{Pc}
-use Rattle.lk_rows.specs.Machine.{Machine, top_frame, cpu_at, set_cpu, set_top, set_node, set_queued, set_counts}
-use Rattle.lk_rows.specs.Machine.{queued_at, rest_node}
-use Rattle.lk_rows.specs.Programs.{to_release}
-use Rattle.lk_rows.specs.Moves.{program_of, started, settled_at, settled, done, granted, missed, skipped}
-use Rattle.lk_rows.specs.Moves.{leave, waiting}
-use Rattle.lk_rows.specs.Row.{Change, Counter, Effect, Lead, Goes, Enters, Granted, Freed, Missed, Done}
-use Rattle.lk_rows.specs.Row.{TakesWait, Leaves, Yields, Tell, Nothing, Says, Passes, Prev, Second, Y, Left}
-use Rattle.lk_rows.specs.Row.{A, B, K, T, Reason, Tailed, HashedIs, TargetIs, moved, counted, gone, entered}
-use Rattle.lk_rows.specs.Row.{changed_all, with_change, event_of, applied}
-use Rattle.lk_renaming.specs.Renaming.{Renaming, IsAmongAlike}
-use Rattle.lk_renaming.specs.Renamed.{renamed, renamed_frame, renamed_told}
-use Rattle.lk_renaming.specs.Renamed.{renamed_answer}
-use Rattle.lk_renaming.proofs.Effects.{renamed_change, renamed_lead, renamed_tell, renamed_effect, choose}
-use Rattle.lk_renaming.proofs.Writes.{Renames, top-renamed, queued-renamed, waiter-renamed, set_top-renamed}
-use Rattle.lk_renaming.proofs.Writes.{set_node-renamed, set_queued-renamed, pop-renamed, top_kept}
-use Rattle.lk_renaming.proofs.Writes.{node_kept, queued_kept}
+use Rattle.lk_rows.specs.Machine.{cpu_at, set_cpu, set_top, set_node, set_queued, set_counts}
+use Rattle.lk_rows.specs.Machine.{queued_at}
+use Rattle.lk_rows.specs.Moves.{program_of, started, settled_at, done, granted, missed, skipped}
+use Rattle.lk_rows.specs.{Moves.{leave, waiting}, Programs.to_release}
+use Rattle.lk_rows.specs.Row.{Counter, Tell, Left, K, Reason, HashedIs, moved, changed_all}
+use Rattle.lk_rows.specs.Row.{with_change, event_of}
+use Rattle.lk_renaming.proofs.Effects.{renamed_change, renamed_lead, renamed_tell, renamed_effect}
+use Rattle.lk_renaming.proofs.Effects.{choose}
+use Rattle.lk_renaming.proofs.Writes.{Renames, top-renamed, queued-renamed, waiter-renamed}
+use Rattle.lk_renaming.proofs.Writes.{set_top-renamed, set_node-renamed, set_queued-renamed}
+use Rattle.lk_renaming.proofs.Writes.{pop-renamed, top_kept, node_kept, queued_kept}
+use Rattle.lk_renaming.specs.Renamed.{renamed_told}
 
 -- registers that change
 

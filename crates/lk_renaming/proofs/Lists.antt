@@ -1,10 +1,8 @@
 -- Lists of which each item is changed.
-use Rattle.std.proofs.Common.{◌≡◌, ℕ, ◌+◌, Bool, List, [], ◌∷◌, Some, None}
-use Rattle.std.proofs.Common.{map, get_or, slice_get, cond, not, nat_lt, position}
-use Rattle.std.proofs.Common.{refl, zero, suc}
-use Rattle.std.specs.Prelude.{unwrap_or}
-use Rattle.std.proofs.lemmas.List.{length-map}
-use Rattle.std.specs.List.{prefix_len}
+use Rattle.std.proofs.Common.{◌≡◌, ℕ, ◌+◌, Bool, List, [], ◌∷◌, Some, None, map, get_or, slice_get}
+use Rattle.std.proofs.Common.{cond, not, nat_lt, position, refl, zero, suc}
+use Rattle.std.specs.{List.prefix_len, Prelude.unwrap_or}
+use Rattle.lk_renaming.proofs.Names.{length-map}
 
 module _ {A B : Type 0} (h : A → B) where
   pub get_or_mapped : (xs : List A) (i : ℕ) (d : A) → get_or (map h xs) i (h d) ≡ h (get_or xs i d)

@@ -1,29 +1,21 @@
 -- The rows of the paravirtual lock, renamed.
-use Rattle.std.proofs.Common.{◌≡◌, ℕ, ◌-◌, Option, Some, None, Bool, true, [], ◌∷◌, refl}
-use Rattle.std.specs.Prelude.{◌==◌, ◌&&◌, not, if◌then◌else◌}
-use Rattle.lk_names.specs.declared.events.What.TheVariants as what
-use Rattle.lk_word.specs.declared.spin_word.NodeName.{NodeName}
+use Rattle.std.proofs.Common.{◌≡◌, ℕ, ◌-◌, Option, Some, None, Bool, true, [], ◌∷◌, refl, ◌==◌}
+use Rattle.std.proofs.Common.{◌&&◌, not, if◌then◌else◌}
+use Rattle.lk_renaming.proofs.Names.{Fields, NodeName, Effect, Freed, Goes, Passes, Says, Tailed}
+use Rattle.lk_renaming.proofs.Names.{Yields, looks, Flag, Frame, Pc, E1, E6, E13, E14, E15, K1, U4}
+use Rattle.lk_renaming.proofs.Names.{U5, W1, W2, W4, W6, W7, State, is_held, is_last, halt_row}
+use Rattle.lk_renaming.proofs.Names.{hash_row, kick_row, pv_flag_row, pv_next_row, pv_row}
+use Rattle.lk_renaming.proofs.Names.{state_row, is_unlocked, AreNames, names_at, renamed_flag}
+use Rattle.lk_renaming.proofs.Names.{renamed_frame, renamed_link, renamed_word, IsRenaming}
+use Rattle.lk_renaming.proofs.Names.{Renaming}
 use Rattle.lk_word.specs.declared.spin_word.Locked.TheVariants.{Free}
-use Rattle.lk_word.specs.declared.spin_word.Fields.{Fields}
-use Rattle.lk_rows.specs.declared.parts.Flag.{Flag}
-use Rattle.lk_rows.specs.declared.parts.Flag.TheVariants as flag
-use Rattle.lk_rows.specs.declared.parts.State.{State}
-use Rattle.lk_rows.specs.declared.parts.Frame.{Frame}
-use Rattle.lk_rows.specs.declared.parts.Pc.{Pc}
-use Rattle.lk_rows.specs.declared.parts.Pc.TheVariants.{H1, H2, W1, W2, W4, W6, W7, E1, E4, E6, E7, E13, E14, E15}
-use Rattle.lk_rows.specs.declared.parts.Pc.TheVariants.{K1, U2, U4, U5}
-use Rattle.lk_rows.specs.Row.{Effect, Goes, Freed, Yields, Says, Passes, PvKickUnlock, Tailed}
-use Rattle.lk_rows.specs.Row.{looks, learns}
-use Rattle.lk_rows.specs.rows.Spin.{is_unlocked}
-use Rattle.lk_rows.specs.rows.Cna.{is_held, is_last}
-use Rattle.lk_rows.specs.rows.Pv.{pv_row, pv_flag_row, pv_next_row, state_row, hash_row, halt_row, kick_row}
-use Rattle.lk_rows.specs.rows.Pv.{after_given_up, after_glance, is_set, is_running}
-use Rattle.lk_rows.specs.rows.Pv.{is_halted}
-use Rattle.lk_renaming.specs.Renaming.{Renaming, IsRenaming}
-use Rattle.lk_renaming.specs.Renamed.{renamed_link, renamed_word, renamed_flag, renamed_frame}
-use Rattle.lk_renaming.specs.Named.{AreNames, names_at}
-use Rattle.lk_renaming.proofs.Effects.{renamed_effect, choose, some-renamed, named}
+use Rattle.lk_rows.specs.Row.{PvKickUnlock, learns}
+use Rattle.lk_rows.specs.declared.parts.Pc.TheVariants.{H1, H2, E4, E7, U2}
+use Rattle.lk_rows.specs.rows.Pv.{after_given_up, after_glance, is_set, is_running, is_halted}
 use Rattle.lk_renaming.proofs.ChoiceRows.{last-renamed}
+use Rattle.lk_renaming.proofs.Effects.{renamed_effect, choose, some-renamed, named}
+use Rattle.lk_names.specs.declared.events.What.TheVariants as what
+use Rattle.lk_rows.specs.declared.parts.Flag.TheVariants as flag
 
 module _ (r : Renaming) (f : Frame) where
   -- the rows on the word

@@ -1,26 +1,19 @@
 -- The rows of the queue, renamed.
-use Rattle.std.proofs.Common.{◌≡◌, ℕ, ◌+◌, Option, Some, None, true, [], refl, ap, ◌∙◌}
-use Rattle.std.specs.Prelude.{◌&&◌, not, is_some, nat_lt, if◌then◌else◌}
-use Rattle.lk_names.specs.declared.names.Mode.{Mode}
-use Rattle.lk_names.specs.declared.names.Mode.TheVariants.{Pv}
+use Rattle.std.proofs.Common.{◌≡◌, ℕ, ◌+◌, Option, Some, None, true, [], refl, ap, ◌∙◌, ◌&&◌, not}
+use Rattle.std.proofs.Common.{is_some, nat_lt, if◌then◌else◌}
+use Rattle.lk_renaming.proofs.Names.{Fields, NodeName, Mode, Pv, is_node, node_of, Effect, Enters}
+use Rattle.lk_renaming.proofs.Names.{Leaves, Nothing, Passes, Says, looks, Flag, Frame, Pc, G5, G6}
+use Rattle.lk_renaming.proofs.Names.{G7, G8, G10, G11, entry_row, flag_row, next_row, queue_row}
+use Rattle.lk_renaming.proofs.Names.{is_free, is_unlocked, AreNames, names_at, renamed_flag}
+use Rattle.lk_renaming.proofs.Names.{renamed_frame, renamed_link, renamed_word, IsRenaming}
+use Rattle.lk_renaming.proofs.Names.{Renaming}
 use Rattle.lk_names.specs.declared.events.What.TheVariants.{Arrive}
-use Rattle.lk_word.specs.declared.spin_word.NodeName.{NodeName}
-use Rattle.lk_word.specs.declared.spin_word.Fields.{Fields}
-use Rattle.lk_rows.specs.declared.parts.Flag.{Flag}
+use Rattle.lk_rows.specs.declared.parts.Pc.TheVariants.{G2, G3, G4, G9, N1, N2}
+use Rattle.lk_rows.specs.rows.Queue.{own_node, after_entry, entry_counts, after_arrival, is_sole}
+use Rattle.lk_rows.specs.rows.Queue.{after_link}
+use Rattle.lk_renaming.proofs.Effects.{renamed_effect, renamed_lead, choose, some-renamed, named}
+use Rattle.lk_renaming.proofs.{Effects.is_node-renamed, SpinRows.free-renamed}
 use Rattle.lk_rows.specs.declared.parts.Flag.TheVariants as flag
-use Rattle.lk_rows.specs.declared.parts.Frame.{Frame}
-use Rattle.lk_rows.specs.declared.parts.Pc.{Pc}
-use Rattle.lk_rows.specs.declared.parts.Pc.TheVariants.{G2, G3, G4, G5, G6, G7, G8, G9, G10, G11, N1, N2}
-use Rattle.lk_rows.specs.Moves.{is_node, node_of}
-use Rattle.lk_rows.specs.Row.{Effect, Enters, Leaves, Nothing, Says, Passes, looks}
-use Rattle.lk_rows.specs.rows.Spin.{is_free, is_unlocked}
-use Rattle.lk_rows.specs.rows.Queue.{queue_row, entry_row, flag_row, next_row, own_node, after_entry}
-use Rattle.lk_rows.specs.rows.Queue.{entry_counts, after_arrival, is_sole, after_link}
-use Rattle.lk_renaming.specs.Renaming.{Renaming, IsRenaming}
-use Rattle.lk_renaming.specs.Renamed.{renamed_link, renamed_word, renamed_flag, renamed_frame}
-use Rattle.lk_renaming.specs.Named.{AreNames, names_at}
-use Rattle.lk_renaming.proofs.Effects.{renamed_effect, renamed_lead, choose, some-renamed, named, is_node-renamed}
-use Rattle.lk_renaming.proofs.SpinRows.{free-renamed}
 
 module _ (r : Renaming) (f : Frame) where
   -- the row on the number of frames in the slow path

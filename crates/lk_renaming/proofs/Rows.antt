@@ -1,47 +1,40 @@
 -- Each row does on the renamed machine what it does, renamed.
-use Rattle.std.proofs.Common.{◌≡◌, ℕ, Option, Some, None, true, ap, refl, sym, ◌∙◌, subst}
-use Rattle.std.specs.Prelude.{◌||◌, ◌==◌, is_some}
+use Rattle.std.proofs.Common.{◌≡◌, ℕ, Option, Some, None, true, ap, refl, sym, ◌∙◌, subst, ◌||◌}
+use Rattle.std.proofs.Common.{◌==◌, is_some}
+use Rattle.lk_renaming.proofs.Names.{NodeName, Machine, top_frame, node_of, Effect, applied, Frame}
+use Rattle.lk_renaming.proofs.Names.{Node, Pc, C1, C2, C3, C4, C5, C6, C7, C8, C9, E1, E2, E10, E14}
+use Rattle.lk_renaming.proofs.Names.{E15, G5, G6, G10, G11, K1, U5, W1, W2, W4, W5, W7, Setup}
+use Rattle.lk_renaming.proofs.Names.{handover_row, promotion_row, runs_row, search_row, second_row}
+use Rattle.lk_renaming.proofs.Names.{halt_row, hash_row, kick_row, pv_flag_row, pv_next_row, pv_row}
+use Rattle.lk_renaming.proofs.Names.{state_row, entry_row, flag_row, next_row, queue_row, rw_row}
+use Rattle.lk_renaming.proofs.Names.{spin_row, AreNames, HasNames, names_at, renamed}
+use Rattle.lk_renaming.proofs.Names.{renamed_answer, renamed_flag, renamed_frame, renamed_link}
+use Rattle.lk_renaming.proofs.Names.{renamed_name, renamed_word, IsAmongAlike, Renaming}
 use Rattle.lk_names.specs.Lawful.{is_local, stays}
-use Rattle.lk_word.specs.declared.spin_word.NodeName.{NodeName}
-use Rattle.lk_rows.specs.declared.setup.Setup.{Setup}
-use Rattle.lk_rows.specs.declared.parts.Node.{Node}
-use Rattle.lk_rows.specs.declared.parts.Frame.{Frame}
-use Rattle.lk_rows.specs.declared.parts.Pc.{Pc}
-use Rattle.lk_rows.specs.declared.parts.Pc.TheVariants.{G5, G6, G10, G11, C1, C2, C3, C4, C5, C6, C7, C8, C9}
-use Rattle.lk_rows.specs.declared.parts.Pc.TheVariants.{W1, W2, W3, W4, W5, W7, E1, E2, E10, E14, E15, K1, U5}
-use Rattle.lk_rows.specs.Machine.{Machine, word_at, rw_at, node_at, queued_at, entry_at, halted_at, kicked_at}
-use Rattle.lk_rows.specs.Machine.{top_frame}
-use Rattle.lk_rows.specs.Moves.{node_of, waiter_of}
-use Rattle.lk_rows.specs.Row.{Effect, applied}
-use Rattle.lk_rows.specs.rows.Spin.{spin_row}
-use Rattle.lk_rows.specs.rows.Queue.{queue_row, entry_row, flag_row, next_row}
-use Rattle.lk_rows.specs.rows.Cna.{search_row, second_row, runs_row, handover_row, promotion_row}
-use Rattle.lk_rows.specs.rows.Pv.{pv_row, pv_flag_row, pv_next_row, state_row, hash_row, halt_row, kick_row}
-use Rattle.lk_rows.specs.rows.Rw.{rw_row}
+use Rattle.lk_rows.specs.Machine.{word_at, rw_at, node_at, queued_at, entry_at, halted_at}
+use Rattle.lk_rows.specs.{Machine.kicked_at, Moves.waiter_of}
 use Rattle.lk_rows.specs.TopRow.{Target, SpinWord, QueueWord, Queued, FlagOf, NextOf, ChoiceWord}
-use Rattle.lk_rows.specs.TopRow.{ChoiceFlag, ChoiceNext, SecondTailOf, RunsOf, PvWord, PvFlag, PvNext}
-use Rattle.lk_rows.specs.TopRow.{StateOf, HashEntry, Halted, KickOf, RwWord, target, sight_at, row_on}
-use Rattle.lk_rows.specs.TopRow.{row_at, row, on_word, on_rw, on_flag, on_next, on_second, on_runs}
-use Rattle.lk_rows.specs.TopRow.{on_state, on_entry, on_halted, on_kicked, on_queued}
-use Rattle.lk_renaming.specs.Renaming.{Renaming, IsAmongAlike}
-use Rattle.lk_renaming.specs.Renamed.{renamed, renamed_name, renamed_link, renamed_word, renamed_flag}
-use Rattle.lk_renaming.specs.Renamed.{renamed_frame, renamed_answer}
-use Rattle.lk_renaming.specs.Named.{AreNames, HasNames, names_at}
-use Rattle.lk_renaming.proofs.Effects.{renamed_effect, named}
-use Rattle.lk_renaming.proofs.Writes.{Renames, word-renamed, rw-renamed, entry-renamed, node-renamed}
-use Rattle.lk_renaming.proofs.Writes.{queued-renamed, halted-renamed, kicked-renamed, top-renamed}
-use Rattle.lk_renaming.proofs.Writes.{waiter-renamed}
-use Rattle.lk_renaming.proofs.SpinRows.{spin_row-renamed}
-use Rattle.lk_renaming.proofs.QueueRows.{queue_row-renamed, entry_row-renamed, flag_row-renamed, next_row-renamed}
-use Rattle.lk_renaming.proofs.ChoiceRows.{SeesSame, search_row-renamed, second_row-renamed, runs_row-renamed}
-use Rattle.lk_renaming.proofs.ChoiceRows.{handover_row-renamed, promotion_row-renamed}
-use Rattle.lk_renaming.proofs.PvRows.{pv_row-renamed, pv_flag_row-renamed, pv_next_row-renamed, state_row-renamed}
-use Rattle.lk_renaming.proofs.PvRows.{hash_row-renamed, halt_row-renamed, kick_row-renamed}
-use Rattle.lk_renaming.proofs.RwRows.{rw_row-renamed}
+use Rattle.lk_rows.specs.TopRow.{ChoiceFlag, ChoiceNext, SecondTailOf, RunsOf, PvWord, PvFlag}
+use Rattle.lk_rows.specs.TopRow.{PvNext, StateOf, HashEntry, Halted, KickOf, RwWord, target}
+use Rattle.lk_rows.specs.TopRow.{sight_at, row_on, row_at, row, on_word, on_rw, on_flag, on_next}
+use Rattle.lk_rows.specs.TopRow.{on_second, on_runs, on_state, on_entry, on_halted, on_kicked}
+use Rattle.lk_rows.specs.{TopRow.on_queued, declared.parts.Pc.TheVariants.W3}
+use Rattle.lk_renaming.proofs.ChoiceRows.{SeesSame, search_row-renamed, second_row-renamed}
+use Rattle.lk_renaming.proofs.ChoiceRows.{runs_row-renamed, handover_row-renamed}
+use Rattle.lk_renaming.proofs.{ChoiceRows.promotion_row-renamed, Effects.{renamed_effect, named}}
 use Rattle.lk_renaming.proofs.Leading.{applied-renamed}
-use Rattle.lk_renaming.proofs.Stores.{Stores, word-stores, rw-stores, entry-stores, flag-stores, next-stores}
-use Rattle.lk_renaming.proofs.Stores.{second-stores, runs-stores, state-stores, halted-stores, kicked-stores}
-use Rattle.lk_renaming.proofs.Stores.{queued-stores}
+use Rattle.lk_renaming.proofs.PvRows.{pv_row-renamed, pv_flag_row-renamed, pv_next_row-renamed}
+use Rattle.lk_renaming.proofs.PvRows.{state_row-renamed, hash_row-renamed, halt_row-renamed}
+use Rattle.lk_renaming.proofs.PvRows.{kick_row-renamed}
+use Rattle.lk_renaming.proofs.QueueRows.{queue_row-renamed, entry_row-renamed, flag_row-renamed}
+use Rattle.lk_renaming.proofs.{QueueRows.next_row-renamed, RwRows.rw_row-renamed}
+use Rattle.lk_renaming.proofs.SpinRows.{spin_row-renamed}
+use Rattle.lk_renaming.proofs.Stores.{Stores, word-stores, rw-stores, entry-stores, flag-stores}
+use Rattle.lk_renaming.proofs.Stores.{next-stores, second-stores, runs-stores, state-stores}
+use Rattle.lk_renaming.proofs.Stores.{halted-stores, kicked-stores, queued-stores}
+use Rattle.lk_renaming.proofs.Writes.{Renames, word-renamed, rw-renamed, entry-renamed}
+use Rattle.lk_renaming.proofs.Writes.{node-renamed, queued-renamed, halted-renamed, kicked-renamed}
+use Rattle.lk_renaming.proofs.Writes.{top-renamed, waiter-renamed}
 
 -- on what a row operates, renamed
 renamed_target : Renaming → Target → Target

@@ -1,30 +1,22 @@
 -- The renamed schedule reaches the renamed machine, and its history is the renamed history.
-use Rattle.std.proofs.Common.{◌≡◌, ℕ, ◌+◌, ◌<◌, Option, Some, None, List, [], ◌∷◌, ◌++◌, map, replicate}
-use Rattle.std.proofs.Common.{length, get_or, slice_get, ap, refl, sym, ◌∙◌, subst, arith, zero, suc}
-use Rattle.lk_names.specs.declared.names.Mode.{Mode}
-use Rattle.lk_names.specs.declared.events.Act.{Act}
-use Rattle.lk_names.specs.declared.events.Event.{Event}
-use Rattle.lk_rows.specs.declared.setup.Op.{Op}
-use Rattle.lk_rows.specs.declared.setup.Setup.{Setup}
-use Rattle.lk_rows.specs.Machine.{Machine, cpu_at, no_cpu, rest_lock}
+use Rattle.std.proofs.Common.{◌≡◌, ℕ, ◌+◌, ◌<◌, Option, Some, None, List, [], ◌∷◌, ◌++◌, map}
+use Rattle.std.proofs.Common.{replicate, length, get_or, slice_get, ap, refl, sym, ◌∙◌, subst}
+use Rattle.std.proofs.Common.{arith, zero, suc}
+use Rattle.lk_renaming.proofs.Names.{Mode, Machine, no_cpu, Answer, Op, Setup, renamed}
+use Rattle.lk_renaming.proofs.Names.{renamed_answer, renamed_cpu, renamed_cpus, renamed_frame}
+use Rattle.lk_renaming.proofs.Names.{renamed_lock, IsAmongAlike, IsRenaming, Renaming}
+use Rattle.lk_names.specs.{declared.events.Act.Act, declared.events.Event.Event}
+use Rattle.lk_rows.specs.{Acts.{next, processor_of}, Machine.{cpu_at, rest_lock}}
 use Rattle.lk_rows.specs.Programs.{IsLawfulSetup, program_at}
-use Rattle.lk_rows.specs.Acts.{next, processor_of}
-use Rattle.lk_rows.specs.Row.{Answer}
-use Rattle.lk_rows.specs.Run.{at_rest, rest_cpu, rest_cpus, first_frame, machine_after, history_from, occurs}
-use Rattle.lk_rows.specs.Run.{Occurrence}
-use Rattle.lk_law.specs.MachineLaws.{ShowsLawful, AreInRange}
-use Rattle.lk_law.specs.Kicked.{with_event}
-use Rattle.lk_law.specs.Sound.{IsSound}
-use Rattle.lk_core.proofs.Runs.{acts_keep, rest_shows}
-use Rattle.lk_core.proofs.Setups.{setup_kept}
-use Rattle.lk_renaming.specs.Renaming.{Renaming, IsRenaming, IsAmongAlike}
-use Rattle.lk_renaming.specs.Renamed.{renamed, renamed_frame, renamed_cpu, renamed_cpus, renamed_lock}
-use Rattle.lk_renaming.specs.Renamed.{renamed_act, renamed_acts, renamed_answer, renamed_told, renamed_history}
-use Rattle.lk_renaming.specs.Law.{SchedulesRunRenamed, SchedulesHaveNames}
-use Rattle.lk_renaming.proofs.Cpus.{comes_low}
-use Rattle.lk_renaming.proofs.Goes.{renamed_goes_on}
+use Rattle.lk_rows.specs.Run.{at_rest, rest_cpu, rest_cpus, first_frame, machine_after}
+use Rattle.lk_rows.specs.Run.{history_from, occurs, Occurrence}
+use Rattle.lk_law.specs.{Kicked.with_event, MachineLaws.{ShowsLawful, AreInRange}, Sound.IsSound}
+use Rattle.lk_core.proofs.{Runs.{acts_keep, rest_shows}, Setups.setup_kept}
+use Rattle.lk_renaming.proofs.{Cpus.comes_low, Goes.renamed_goes_on}
 use Rattle.lk_renaming.proofs.Later.{AllNamed, CpusNamed, FrameNamed, first_quiet, rest_named}
 use Rattle.lk_renaming.proofs.LaterActs.{sound_names, next-named}
+use Rattle.lk_renaming.specs.Law.{SchedulesRunRenamed, SchedulesHaveNames}
+use Rattle.lk_renaming.specs.Renamed.{renamed_act, renamed_acts, renamed_told, renamed_history}
 
 -- a machine of this setup that a schedule has reached from rest
 record OnTheWay (setup : Setup) (m : Machine) : Type 0 where

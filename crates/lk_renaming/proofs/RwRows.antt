@@ -1,14 +1,9 @@
 -- The rows of readers and writers, renamed: they name nobody.
 use Rattle.std.proofs.Common.{◌≡◌, refl}
-use Rattle.lk_names.specs.declared.names.Mode.{Mode}
-use Rattle.lk_word.specs.declared.rw_word.RwFields.{RwFields}
-use Rattle.lk_rows.specs.declared.parts.Frame.{Frame}
-use Rattle.lk_rows.specs.declared.parts.Pc.{Pc}
+use Rattle.lk_renaming.proofs.Names.{RwFields, Mode, Effect, Frame, Pc, rw_row, renamed_frame}
+use Rattle.lk_renaming.proofs.Names.{Renaming}
 use Rattle.lk_rows.specs.declared.parts.Pc.TheVariants.{R1, R2, R5, Wr1, Wr3, Wr6, Y1, Y2, Y4, Y5}
-use Rattle.lk_rows.specs.Row.{Effect}
-use Rattle.lk_rows.specs.rows.Rw.{rw_row, is_empty, is_open, is_cleared}
-use Rattle.lk_renaming.specs.Renaming.{Renaming}
-use Rattle.lk_renaming.specs.Renamed.{renamed_frame}
+use Rattle.lk_rows.specs.rows.Rw.{is_empty, is_open, is_cleared}
 use Rattle.lk_renaming.proofs.Effects.{renamed_effect, choose}
 
 module _ (r : Renaming) (f : Frame) (x : RwFields) where

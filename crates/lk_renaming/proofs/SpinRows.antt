@@ -1,16 +1,10 @@
 -- The rows on the word of a spinlock that need no queue, renamed.
-use Rattle.std.proofs.Common.{◌≡◌, refl, true}
-use Rattle.std.specs.Prelude.{◌&&◌, not, if◌then◌else◌}
-use Rattle.lk_names.specs.declared.names.Mode.{Mode}
-use Rattle.lk_names.specs.declared.names.Mode.TheVariants.{Virt, Pv}
-use Rattle.lk_word.specs.declared.spin_word.Fields.{Fields}
-use Rattle.lk_rows.specs.declared.parts.Frame.{Frame}
-use Rattle.lk_rows.specs.declared.parts.Pc.{Pc}
+use Rattle.std.proofs.Common.{◌≡◌, refl, true, ◌&&◌, not, if◌then◌else◌}
+use Rattle.lk_renaming.proofs.Names.{Fields, Mode, Pv, Virt, Effect, looks, Frame, Pc, is_free}
+use Rattle.lk_renaming.proofs.Names.{is_unlocked, spin_row, renamed_frame, renamed_word, Renaming}
+use Rattle.lk_rows.specs.Row.{writes}
 use Rattle.lk_rows.specs.declared.parts.Pc.TheVariants.{F1, T1, T2, V1, V2, P0, P1, P2, P3, P4, G1}
-use Rattle.lk_rows.specs.Row.{Effect, looks, writes}
-use Rattle.lk_rows.specs.rows.Spin.{spin_row, is_free, is_unlocked, to_queue, after_fast}
-use Rattle.lk_renaming.specs.Renaming.{Renaming}
-use Rattle.lk_renaming.specs.Renamed.{renamed_word, renamed_frame}
+use Rattle.lk_rows.specs.rows.Spin.{to_queue, after_fast}
 use Rattle.lk_renaming.proofs.Effects.{renamed_effect, choose, some-renamed}
 
 -- the word is as free as before

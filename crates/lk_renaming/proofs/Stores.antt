@@ -1,26 +1,18 @@
 -- What a row stores, renamed.
-use Rattle.std.proofs.Common.{◌≡◌, ℕ, Option, Some, None, Bool, ap, refl, ◌∙◌}
-use Rattle.std.specs.Prelude.{option_map}
-use Rattle.lk_names.specs.declared.names.LockName.{LockName}
-use Rattle.lk_word.specs.declared.spin_word.NodeName.{NodeName}
-use Rattle.lk_word.specs.declared.spin_word.Fields.{Fields}
-use Rattle.lk_word.specs.declared.rw_word.RwFields.{RwFields}
-use Rattle.lk_rows.specs.declared.parts.Flag.{Flag}
-use Rattle.lk_rows.specs.declared.parts.State.{State}
-use Rattle.lk_rows.specs.declared.parts.Node.{Node}
-use Rattle.lk_rows.specs.declared.parts.Frame.{Frame}
-use Rattle.lk_rows.specs.Machine.{Machine, node_at, set_node, set_word, set_rw, set_lock, set_entry}
-use Rattle.lk_rows.specs.Machine.{set_cpu, set_halted, set_kicked, set_queued}
+use Rattle.std.proofs.Common.{◌≡◌, ℕ, Option, Some, None, Bool, ap, refl, ◌∙◌, option_map}
+use Rattle.lk_renaming.proofs.Names.{RwFields, Fields, NodeName, LockName, Machine, Flag, Frame}
+use Rattle.lk_renaming.proofs.Names.{Node, State, renamed, renamed_flag, renamed_frame}
+use Rattle.lk_renaming.proofs.Names.{renamed_link, renamed_name, renamed_node, renamed_word}
+use Rattle.lk_renaming.proofs.Names.{Renaming}
+use Rattle.lk_rows.specs.Machine.{node_at, set_node, set_word, set_rw, set_lock, set_entry, set_cpu}
+use Rattle.lk_rows.specs.Machine.{set_halted, set_kicked, set_queued}
 use Rattle.lk_rows.specs.TopRow.{stored_word, stored_rw, stored_flag, stored_next, stored_second}
-use Rattle.lk_rows.specs.TopRow.{stored_runs, stored_state, stored_entry, stored_halted, stored_kicked}
-use Rattle.lk_rows.specs.TopRow.{stored_queued}
-use Rattle.lk_renaming.specs.Renaming.{Renaming}
-use Rattle.lk_renaming.specs.Renamed.{renamed, renamed_link, renamed_name, renamed_word, renamed_flag}
-use Rattle.lk_renaming.specs.Renamed.{renamed_node, renamed_frame}
+use Rattle.lk_rows.specs.TopRow.{stored_runs, stored_state, stored_entry, stored_halted}
+use Rattle.lk_rows.specs.TopRow.{stored_kicked, stored_queued}
 use Rattle.lk_renaming.proofs.Writes.{Renames, node-renamed, set_word-renamed, set_rw-renamed}
 use Rattle.lk_renaming.proofs.Writes.{set_node-renamed, set_entry-renamed, set_halted-renamed}
-use Rattle.lk_renaming.proofs.Writes.{set_kicked-renamed, set_queued-renamed, node_kept, halted_kept}
-use Rattle.lk_renaming.proofs.Writes.{kicked_kept, queued_kept}
+use Rattle.lk_renaming.proofs.Writes.{set_kicked-renamed, set_queued-renamed, node_kept}
+use Rattle.lk_renaming.proofs.Writes.{halted_kept, kicked_kept, queued_kept}
 
 -- The store makes n of m, and k of the renamed machine: that is n renamed, and n has as many processors
 -- and the same setup.

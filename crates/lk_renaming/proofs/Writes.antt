@@ -1,29 +1,24 @@
 -- What is read of a renamed machine, and what is written to it.
-use Rattle.std.proofs.Common.{◌≡◌, ℕ, ◌+◌, ◌-◌, Option, Some, None, Bool, List, [], ◌∷◌}
-use Rattle.std.proofs.Common.{◌++◌, map, length, take, get_or, set, slice_get, position}
-use Rattle.std.proofs.Common.{ap, refl, sym, ◌∙◌, subst}
-use Rattle.std.specs.Prelude.{if◌then◌else◌, unwrap_or, nat_lt}
-use Rattle.std.proofs.lemmas.List.{length-map, length-set, map-set, take-map, map_push}
+use Rattle.std.proofs.Common.{◌≡◌, ℕ, ◌+◌, ◌-◌, Option, Some, None, Bool, List, [], ◌∷◌, ◌++◌, map}
+use Rattle.std.proofs.Common.{length, take, get_or, set, slice_get, position, ap, refl, sym, ◌∙◌}
+use Rattle.std.proofs.Common.{subst, if◌then◌else◌, nat_lt}
+use Rattle.std.proofs.lemmas.List.{length-set, map-set, take-map, map_push}
+use Rattle.std.specs.Prelude.{unwrap_or}
+use Rattle.lk_renaming.proofs.Names.{length-map, RwFields, Fields, NodeName, LockName, CpuState}
+use Rattle.lk_renaming.proofs.Names.{Machine, rest_frame, rest_node, top_frame, is_node, Frame}
+use Rattle.lk_renaming.proofs.Names.{Node, renamed, renamed_cpu, renamed_frame, renamed_link}
+use Rattle.lk_renaming.proofs.Names.{renamed_lock, renamed_name, renamed_node, renamed_word}
+use Rattle.lk_renaming.proofs.Names.{IsRenaming, Renaming}
 use Rattle.lk_names.specs.Names.{same_lock}
-use Rattle.lk_names.specs.declared.names.LockName.{LockName}
-use Rattle.lk_word.specs.declared.spin_word.NodeName.{NodeName}
-use Rattle.lk_word.specs.declared.spin_word.Fields.{Fields}
-use Rattle.lk_word.specs.declared.rw_word.RwFields.{RwFields}
-use Rattle.lk_rows.specs.declared.parts.Frame.{Frame}
-use Rattle.lk_rows.specs.declared.parts.Node.{Node}
-use Rattle.lk_rows.specs.Machine.{Machine, CpuState, LockState, cpu_at, lock_at, word_at, rw_at, node_at}
-use Rattle.lk_rows.specs.Machine.{frame_at, depth_at, queued_at, preempted_at, halted_at, kicked_at}
-use Rattle.lk_rows.specs.Machine.{handlers_at, entry_in, entry_at, with_entry, without_entry, lock_number}
-use Rattle.lk_rows.specs.Machine.{top_frame, set_cpu, set_lock, set_word, set_rw, set_node, set_top}
-use Rattle.lk_rows.specs.Machine.{set_queued, set_preempted, set_halted, set_kicked, set_entry, pop, push}
-use Rattle.lk_rows.specs.Machine.{rest_frame, rest_node, rest_lock}
-use Rattle.lk_rows.specs.Moves.{is_node, context_of, waiter_of}
-use Rattle.lk_renaming.specs.Renaming.{Renaming, IsRenaming}
-use Rattle.lk_renaming.specs.Renamed.{renamed, renamed_cpu, renamed_lock, renamed_word, renamed_name}
-use Rattle.lk_renaming.specs.Renamed.{renamed_link, renamed_node, renamed_frame, renamed_waiter, renamed_entry}
+use Rattle.lk_rows.specs.Machine.{LockState, cpu_at, lock_at, word_at, rw_at, node_at, frame_at}
+use Rattle.lk_rows.specs.Machine.{depth_at, queued_at, preempted_at, halted_at, kicked_at}
+use Rattle.lk_rows.specs.Machine.{handlers_at, entry_in, entry_at, with_entry, without_entry}
+use Rattle.lk_rows.specs.Machine.{lock_number, set_cpu, set_lock, set_word, set_rw, set_node}
+use Rattle.lk_rows.specs.Machine.{set_top, set_queued, set_preempted, set_halted, set_kicked}
+use Rattle.lk_rows.specs.{Machine.{set_entry, pop, push, rest_lock}, Moves.{context_of, waiter_of}}
+use Rattle.lk_renaming.proofs.{Cpus.{cpu-renamed, put-renamed}, Effects.{choose, is_node-renamed}}
 use Rattle.lk_renaming.proofs.Lists.{get_or_mapped, slice_get_mapped, position_mapped}
-use Rattle.lk_renaming.proofs.Cpus.{cpu-renamed, put-renamed}
-use Rattle.lk_renaming.proofs.Effects.{choose, is_node-renamed}
+use Rattle.lk_renaming.specs.Renamed.{renamed_waiter, renamed_entry}
 
 -- the renaming is one of the machine's processors
 abbrev pub Renames : Renaming → Machine → Type 0
