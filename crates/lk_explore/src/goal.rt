@@ -21,8 +21,8 @@ const NO_STEPS: Run = Run { cpu: 0, count: 0 };
 
 // The acts of a shortest schedule to a state that is lost, if there is one. If the exploration did
 // not meet all states, none is: what leads on from a state may not be known yet.
-fn lost(alloc: Global, goal: Goal, graph: &Graph) -> Result<Option<Vec<Act>>, Memory>
-    requires graph { IsGraph graph.now }
+fn lost(alloc: Global, goal: Goal, graph: &mut Graph) -> Result<Option<Vec<Act>>, Memory>
+    requires graph { IsGraph graph.old }
 {
     if !graph.is_whole() {
         return Ok(None);
@@ -69,8 +69,8 @@ fn schedule_to(
 }
 
 // The acts of a shortest schedule to what is sought of any processor, if there is one.
-fn schedule(alloc: Global, goal: Goal, graph: &Graph) -> Result<Option<Vec<Act>>, Memory>
-    requires graph { IsGraph graph.now }
+fn schedule(alloc: Global, goal: Goal, graph: &mut Graph) -> Result<Option<Vec<Act>>, Memory>
+    requires graph { IsGraph graph.old }
 {
     match goal {
         Goal::Row(row) => graph.acts_to_row(alloc, row),

@@ -64,9 +64,9 @@ fn count(marks: &[bool]) -> u64 {
 }
 
 // How the states end.
-fn add_ends(alloc: Global, lines: &mut Lines, graph: &Graph) -> Result<(), Memory>
-    requires graph { IsGraph graph.now }
-    requires whole { IsWhole graph.now }
+fn add_ends(alloc: Global, lines: &mut Lines, graph: &mut Graph) -> Result<(), Memory>
+    requires graph { IsGraph graph.old }
+    requires whole { IsWhole graph.old }
 {
     let folds = graph.folds();
     lines.count("finished", count(&graph.finished(alloc)?), folds);
@@ -103,9 +103,9 @@ pub(crate) fn add_overview(
     lines: &mut Lines,
     asked: &Asked,
     locks: &Locks,
-    graph: &Graph,
+    graph: &mut Graph,
 ) -> Result<Answer, Memory>
-    requires graph { IsGraph graph.now }
+    requires graph { IsGraph graph.old }
 {
     let rows = all_rows(alloc)?;
     let marks = graph.rows_made(alloc, &rows)?;

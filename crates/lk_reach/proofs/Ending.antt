@@ -10,16 +10,17 @@ use Rattle.lk_names.specs.declared.events.Act.TheVariants as act
 use Rattle.lk_rows.specs.Machine.{Machine}
 use Rattle.lk_reach.specs.declared.graph.Graph.{Graph}
 use Rattle.lk_reach.specs.Ends.{AreDoomed, AreEnds, AreFinishing, AreStuck, AreTurned, CanFinish, IsClosed, IsFirst, IsLed, IsMarkedOnly, IsPassed, LeadsMarked, StaysAt}
-use Rattle.lk_reach.specs.Ends.{IsShortestToDoom, IsShortestToEnd, IsState, IsStuck, IsWayToStuck, NobodyIsDoomed}
+use Rattle.lk_reach.specs.Ends.{IsShortestToDoom, IsShortestToEnd, IsShortestToStuck, IsState, IsStuck, NobodyIsDoomed, NobodyIsStuck}
 use Rattle.lk_idle.specs.Alike.{AreAlike}
 use Rattle.lk_reach.specs.Folded.{StandsFor}
 use Rattle.lk_reach.specs.Explored.{KeepsLike, LeadsTo}
 use Rattle.lk_reach.specs.Reach.{AreMoves, AreOver, IsMove, IsReached, after, run, state_after}
+use Rattle.lk_reach.specs.Sights.{AreGoing}
 use Rattle.lk_reach.specs.Space.{Keeps}
 use Rattle.lk_reach.specs.Told.{IsGraph, IsWay, IsWhole}
 use Rattle.lk_reach.proofs.Columns.{leads_act, leads_low, leads_one}
 use Rattle.lk_reach.proofs.Closed.{Laws, reached_alike, reached_such, reached_then, same_state}
-use Rattle.lk_reach.proofs.Folded.{over_stands, runs_on, stands_back, stands_self, stands_then, steps}
+use Rattle.lk_reach.proofs.Folded.{over_stands, runs_on, stands_back, stands_self, stands_then, steps, still_stands}
 use Rattle.lk_reach.proofs.Likeness.{after_alike}
 use Rattle.lk_reach.proofs.Known.{no_sooner, whole_met}
 
@@ -97,9 +98,21 @@ module _ (laws : Laws) (g : Graph) (is : IsGraph g) where
       → IsState g k like.state
   state_like k s like = record { keeps = like.keeps; reached = like.reached }
 
-  -- a state that no act leads on from, and at which not everybody is done
-  pub stuck_at : (k : ℕ) → k < g.left → StaysAt g.book k → (s : Machine) → IsState g k s → ¬ AreOver s → IsStuck g s
-  stuck_at k low stays s x waits = record { still = still; waits = waits }
+  -- a state that no act changes, and at which not everybody is done
+  stuck_when : (s : Machine) → IsReached g.plan g.machine.setup s
+      → ((a : Act) → IsMove g.plan.extras g.machine.setup a → AreAlike (after s a) s) → ¬ AreOver s → IsStuck g s
+  stuck_when s reached step waits = record { still = still; waits = waits }
+    where
+      still : (acts : List Act) → AreMoves g.plan.extras g.machine.setup acts → AreAlike (run s acts) s
+      still [] moves = refl
+      still (a ∷ acts) moves =
+          run_alike acts (after s a) s (reached_then laws g.plan g.machine.setup is.begun s a reached moves.0)
+          reached moves.1 (step a moves.0)
+          ∙ still acts moves.1
+
+  -- each act led from it to its own number
+  stuck_at : (k : ℕ) → k < g.left → StaysAt g.book k → (s : Machine) → IsState g k s → ¬ AreOver s → IsStuck g s
+  stuck_at k low stays s x waits = stuck_when s x.reached step waits
     where
       step : (a : Act) → IsMove g.plan.extras g.machine.setup a → AreAlike (after s a) s
       step a move =
@@ -109,12 +122,31 @@ module _ (laws : Laws) (g : Graph) (is : IsGraph g) where
           let tried = l.next at.0 a at.1 in
           subst (λ z. AreAlike (after z a) z) same (sym (tried.stays (stays at.0 tried.met.number tried.then)))
 
-      still : (acts : List Act) → AreMoves g.plan.extras g.machine.setup acts → AreAlike (run s acts) s
-      still [] moves = refl
-      still (a ∷ acts) moves =
-          run_alike acts (after s a) s (reached_then laws g.plan g.machine.setup is.begun s a x.reached moves.0)
-          x.reached moves.1 (step a moves.0)
-          ∙ still acts moves.1
+  -- who stands for a stuck state is stuck
+  stuck_stands : (s t : Machine) → IsReached g.plan g.machine.setup s → IsReached g.plan g.machine.setup t
+      → StandsFor g.plan g.machine.setup s t → IsStuck g t → IsStuck g s
+  stuck_stands s t r q st stuck =
+      let back = stands_back g.plan g.machine.setup is.begun s t r st in
+      stuck_when s r
+      (still_stands g.plan g.machine.setup is.begun t s q r back (λ b move. stuck.still (b ∷ []) (move, tt)))
+      (λ over. stuck.waits (over_stands g.plan g.machine.setup is.begun t s q r back over))
+
+  -- what the marks of those that go on say of the others
+  pub stuck_all : (marks turned : List Bool) → IsWhole g → AreGoing g.plan g.machine.setup g.space marks
+      → ((k : ℕ) → slice_get marks k ≡ Some false → StaysAt g.book k) → AreTurned marks turned → AreStuck g turned
+  stuck_all marks turned whole going stays t = record {
+    count = t.count ∙ going.count;
+    yes = λ k on s x.
+        let off = t.each k true on in
+        let low = slice_get_within marks k false off in
+        let count = going.count in
+        stuck_at k (omega (arith, low, count, whole)) (stays k off) s x (going.off k off s x.keeps x.reached);
+    no = λ k off s x stuck.
+        elim (going.on k (t.each k false off)) [
+          | inl over ↦ stuck.waits (over s x.keeps x.reached)
+          | inr on ↦ on.other s x.keeps x.reached (stuck.still (on.act ∷ []) (on.move, tt))
+        ];
+  }
 
   -- what an act led to
   pub led : (k i j : ℕ) → LeadsTo g.book k i j → IsLed g k i j
@@ -286,11 +318,22 @@ module _ (laws : Laws) (g : Graph) (is : IsGraph g) where
         ];
   }
 
-  pub way_to_stuck : (marks : List Bool) (k : ℕ) (acts : List Act) → AreStuck g marks → IsFirst marks k
-      → IsWay g k acts → IsWayToStuck g acts
-  way_to_stuck marks k acts stuck first to = record {
+  pub shortest_stuck : (marks : List Bool) (k : ℕ) (acts : List Act) → AreStuck g marks → IsFirst marks k
+      → IsWay g k acts → IsShortestToStuck g acts
+  shortest_stuck marks k acts stuck first to = record {
     moves = to.moves;
     stuck = stuck.yes k first.here (state_after g.plan g.machine.setup acts) (state_of k acts to.moves to.leads);
+    shortest = λ others moves lost.
+        elim (cases_lt (length others) (length acts)) [
+          | inr not_so ↦ omega (arith, not_so)
+          | inl less ↦
+              let before = sooner k acts others to moves less in
+              let t = state_after g.plan g.machine.setup others in
+              let like = before.2 in
+              absurd (stuck.no before.0 (off_below marks k before.0 like.state stuck.count first before.1 like.keeps)
+              like.state (state_like before.0 t like) (stuck_stands like.state t like.reached
+              (record { acts = others; moves = moves; there = refl }) like.stands lost))
+        ];
   }
 
   -- no mark is set, where every state was left
@@ -323,6 +366,16 @@ module _ (laws : Laws) (g : Graph) (is : IsGraph g) where
       can_stand like.state t like.reached (record { acts = acts; moves = moves; there = refl }) like.stands
       (doomed.no met.number (off_at marks met.number like.state doomed.count none like.keeps) like.state
       (state_like met.number t like))
+
+  pub no_stuck : (marks : List Bool) → AreStuck g marks → ((k : ℕ) → slice_get marks k ≡ Some true → ⊥) → IsWhole g
+      → NobodyIsStuck g
+  no_stuck marks stuck none whole acts moves lost =
+      let met = whole_met laws g.plan g.machine.setup is.begun g.space g.book g.left is.explored whole acts moves in
+      let t = state_after g.plan g.machine.setup acts in
+      let like = met.like in
+      stuck.no met.number (off_at marks met.number like.state stuck.count none like.keeps) like.state
+      (state_like met.number t like) (stuck_stands like.state t like.reached
+      (record { acts = acts; moves = moves; there = refl }) like.stands lost)
 
 -- who is done can finish
 pub finishing : (g : Graph) (marks : List Bool) → AreEnds g marks → AreFinishing g marks

@@ -372,6 +372,16 @@ module _ (plan : Plan) (setup : Setup) (begun : IsBegun plan setup) where
         by true folds = folded_step a move folds
         by false not_so = plain_step a move not_so
 
+    -- if no act changes the one, but for what nobody reads, none changes the other
+    pub still_stands : ((b : Act) → IsMove plan.extras setup b → AreAlike (after t b) t) → (a : Act)
+        → IsMove plan.extras setup a → AreAlike (after s a) s
+    still_stands still a move =
+        let on = reached_alike laws plan setup begun (renamed r t) s a there other st.alike in
+        let over : renamed r (after t (old a)) ≡ after (renamed r t) a =
+        sym (after_renamed r st.fits t one (old a)) ∙ ap (λ c. after (renamed r t) c) (came a) in
+        sym (ap (λ m. bared m) over ∙ after_alike (renamed r t) s st.alike a on)
+        ∙ alike_stays r (after t (old a)) t (still (old a) (old_move a move)) ∙ st.alike
+
     -- both make the same rows
     pub makes_stands : (row : Pc) → MakesRow s row → MakesRow t row
     makes_stands row x = makes_back r t is back_is row (makes_alike s (renamed r t) (sym st.alike) row x)

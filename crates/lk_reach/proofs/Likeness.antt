@@ -46,10 +46,10 @@ module _ (s t : Machine) (alike : AreAlike s t) where
   pub cpus_alike : length s.cpus ≡ length t.cpus
   cpus_alike = sym (cpus_bared s) ∙ ap (λ (m : Machine). length m.cpus) alike ∙ cpus_bared t
 
-  cpu_alike : (p : ℕ) → bared_cpu (cpu_at s p) ≡ bared_cpu (cpu_at t p)
+  pub cpu_alike : (p : ℕ) → bared_cpu (cpu_at s p) ≡ bared_cpu (cpu_at t p)
   cpu_alike p = sym (cpu-bared s p) ∙ ap (λ (m : Machine). cpu_at m p) alike ∙ cpu-bared t p
 
-  row_alike : (p : ℕ) → row_of (cpu_at s p) ≡ row_of (cpu_at t p)
+  pub row_alike : (p : ℕ) → row_of (cpu_at s p) ≡ row_of (cpu_at t p)
   row_alike p = row_same (cpu_at s p) (cpu_at t p) (cpu_alike p)
 
   pub makes_alike : (row : Pc) → MakesRow s row → MakesRow t row

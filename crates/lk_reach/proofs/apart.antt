@@ -14,3 +14,4 @@ pub mod Alike
 pub mod Remembered
 pub mod Grown
 pub mod Counts
+pub mod Going

@@ -8,7 +8,7 @@ use Rattle.lk_reach.specs.declared.graph.Graph.{Graph}
 use Rattle.lk_reach.specs.Edges.{edges_in}
 use Rattle.lk_reach.specs.Reach.{AreMoves, AreOver, IsReached, after, run, state_after}
 use Rattle.lk_idle.specs.Alike.{AreAlike}
-use Rattle.lk_reach.specs.Explored.{KeepsLike, LeadsTo}
+use Rattle.lk_reach.specs.Explored.{IsSuch, KeepsLike, LeadsTo}
 use Rattle.lk_reach.specs.Space.{Keeps}
 
 -- the number is that of this state, which a schedule reaches
@@ -47,10 +47,16 @@ pub record IsStuck (g : Graph) (s : Machine) : Type 0 where
   pub still : (acts : List Act) → AreMoves g.plan.extras g.machine.setup acts → AreAlike (run s acts) s
   pub waits : ¬ AreOver s
 
--- each state that is marked is stuck
+-- each mark says whether its state is stuck
 pub record AreStuck (g : Graph) (marks : List Bool) : Type 0 where
   pub count : length marks ≡ length g.space.keys
   pub yes : (k : ℕ) → slice_get marks k ≡ Some true → (s : Machine) → IsState g k s → IsStuck g s
+  pub no : (k : ℕ) → slice_get marks k ≡ Some false → (s : Machine) → IsState g k s → ¬ IsStuck g s
+
+-- the graph is the same, but for the state of its machine
+pub record IsReloaded (old new : Graph) : Type 0 where
+  pub such : IsSuch old.machine.setup new.machine
+  pub same : new ≡ record old { machine = new.machine }
 
 -- some schedule leads from the state to one at which everybody is done
 pub record CanFinish (g : Graph) (s : Machine) : Type 0 where
@@ -100,15 +106,9 @@ pub record IsPassed (g : Graph) (old new : List Bool) (k : ℕ) (passes : Bool) 
   pub closed : passes ≡ false → (i j : ℕ) → LeadsTo g.book k i j → slice_get old j ≡ Some true
       → slice_get old k ≡ Some true
 
--- no act leads on from the state of this number
+-- each act led from the state of this number to that number
 abbrev pub StaysAt : Book → ℕ → Type 0
 StaysAt b k = (i j : ℕ) → LeadsTo b k i j → j ≡ k
-
--- the state is marked, if some act leads on from it
-pub record IsMarkedGoing (b : Book) (old new : List Bool) (n : ℕ) : Type 0 where
-  pub count : length new ≡ length old
-  pub off : (k : ℕ) → slice_get new k ≡ Some false → slice_get old k ≡ Some false
-  pub stays : slice_get new n ≡ Some false → StaysAt b n
 
 -- each mark is turned round
 pub record AreTurned (old new : List Bool) : Type 0 where
@@ -134,10 +134,17 @@ pub record IsShortestToDoom (g : Graph) (acts : List Act) : Type 0 where
   pub shortest : (others : List Act) → AreMoves g.plan.extras g.machine.setup others
       → IsDoomed g (state_after g.plan g.machine.setup others) → length acts ≤ length others
 
--- this schedule leads to a stuck state
-pub record IsWayToStuck (g : Graph) (acts : List Act) : Type 0 where
+-- a stuck state is behind this schedule, and behind no shorter one
+pub record IsShortestToStuck (g : Graph) (acts : List Act) : Type 0 where
   pub moves : AreMoves g.plan.extras g.machine.setup acts
   pub stuck : IsStuck g (state_after g.plan g.machine.setup acts)
+  pub shortest : (others : List Act) → AreMoves g.plan.extras g.machine.setup others
+      → IsStuck g (state_after g.plan g.machine.setup others) → length acts ≤ length others
+
+-- no schedule reaches a stuck state
+abbrev pub NobodyIsStuck : Graph → Type 0
+NobodyIsStuck g = (acts : List Act) → AreMoves g.plan.extras g.machine.setup acts
+    → ¬ IsStuck g (state_after g.plan g.machine.setup acts)
 
 -- from every state that a schedule reaches, some schedule finishes
 abbrev pub NobodyIsDoomed : Graph → Type 0

@@ -10,6 +10,7 @@ pub mod Explored
 pub mod Path
 pub mod Told
 pub mod Rows
+pub mod Sights
 pub mod Ends
 pub mod Deeds
 pub mod Seeking

@@ -47,8 +47,8 @@ fn is_that(sought: Option<u32>, number: u32) -> bool
     }
 }
 
-// The processor of an act.
-fn cpu_of(doing: Act) -> u32
+/// The processor of an act.
+pub(crate) fn cpu_of(doing: Act) -> u32
     ensures { result ≡ processor_of doing }
 {
     match doing {

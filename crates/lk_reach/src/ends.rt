@@ -1,10 +1,16 @@
 // How the states of a graph end: finished, stuck or doomed.
 
 ghost use Rattle.std.specs.Prelude.{◌≡◌, ◌≢◌, ℕ, IfOk, Some, slice_get, true, false};
-ghost use Rattle.lk_reach.specs.Ends.{AreDoomed, AreEnds, AreFinishing, AreStuck, AreTurned, IsClosed, IsMarkedGoing, IsMarkedOnly, IsPassed, LeadsMarked, StaysAt};
+ghost use Rattle.lk_reach.specs.Ends.{AreDoomed, AreEnds, AreFinishing, AreStuck, AreTurned, IsClosed, IsMarkedOnly, IsPassed, IsReloaded, LeadsMarked};
 ghost use Rattle.lk_reach.specs.Explored.{LeadsTo};
+ghost use Rattle.lk_reach.specs.Sights.{AreGoing, LeadsOn};
 ghost use Rattle.lk_reach.specs.Told.{IsGraph, IsWhole};
 
+mod lost;
+pub(crate) mod sight;
+mod staying;
+
+use crate::ends::staying::mark_going;
 use crate::graph::{Graph, add_mark};
 use lk_core::{acts_change_little, runs_keep};
 use lk_names::Memory;
@@ -16,6 +22,16 @@ pub(crate) fn mark(marks: &mut Vec<bool>, state: usize)
 {
     if state < marks.len() {
         marks[state] = true;
+    }
+}
+
+// Marks a state, if that is asked for.
+fn mark_if(marks: &mut Vec<bool>, state: usize, on: bool)
+    ensures yes { on ≡ true → IsMarkedOnly marks.old.items marks.new.items state }
+    ensures no { on ≡ false → marks.new.items ≡ marks.old.items }
+{
+    if on {
+        mark(marks, state);
     }
 }
 
@@ -60,54 +76,90 @@ impl Graph {
         Ok(marks)
     }
 
-    // Whether an act led from a state to another one.
-    fn is_edge(&self, state: usize, act: usize) -> bool
-        ensures { result ≡ false → (j : ℕ) → LeadsTo self.now.book state act j → j ≡ state }
+    // Whether an act led from a state to one at which other rows are made.
+    fn shows_edge(&self, state: usize, act: usize) -> bool
+        requires graph { IsGraph self.now }
+        requires plain { self.now.plan.folds ≡ false }
+        ensures { result ≡ true → LeadsOn self.now.plan self.now.machine.setup self.now.space state }
     {
         match self.book.then(state, act) {
-            Some(then) => then as usize != state,
+            Some(then) => {
+                let then = then as usize;
+                then != state && self.space.makes_other(state, then, self.cpus)
+            }
             None => false,
         }
     }
 
-    // Whether some act led from a state to another one.
-    fn goes_on(&self, state: usize) -> bool
-        ensures { result ≡ false → StaysAt self.now.book state }
+    // Whether some act led from a state to one at which other rows are made.
+    fn shows_going(&self, state: usize) -> bool
+        requires graph { IsGraph self.now }
+        requires plain { self.now.plan.folds ≡ false }
+        ensures { result ≡ true → LeadsOn self.now.plan self.now.machine.setup self.now.space state }
     {
         for act in 0..self.book.acts() {
-            if self.is_edge(state, act) {
+            if self.shows_edge(state, act) {
                 return true;
             }
         }
         false
     }
 
-    // Marks a state, if some act led on from it.
-    fn mark_going(&self, marks: &mut Vec<bool>, state: usize)
-        ensures { IsMarkedGoing self.now.book marks.old.items marks.new.items state }
+    // Marks each state from which an act led to one at which other rows are made. These are nearly all
+    // from which one leads on.
+    fn mark_shown(&self, marks: &mut Vec<bool>)
+        requires graph { IsGraph self.now }
+        requires plain { self.now.plan.folds ≡ false }
+        requires going { AreGoing self.now.plan self.now.machine.setup self.now.space marks.old.items }
+        ensures { AreGoing self.now.plan self.now.machine.setup self.now.space marks.new.items }
     {
-        if self.goes_on(state) {
-            mark(marks, state);
+        for state in 0..self.states() {
+            let on = self.shows_going(state);
+            mark_if(marks, state, on);
         }
     }
 
-    /// For each state whether it was seen to be stuck: no act leads on from it, and not every
-    /// processor is done there.
+    // Marks each state at which every processor is done, or from which an act led to one at which other
+    // rows are made. Where states are folded only the first: other rows may be the same ones under
+    // other numbers.
+    fn shown(&self, alloc: Global) -> Result<Vec<bool>, Memory>
+        requires graph { IsGraph self.now }
+        ensures { IfOk result (λ marks. AreGoing self.now.plan self.now.machine.setup self.now.space
+            marks.items) }
+    {
+        let mut marks = self.finished(alloc)?;
+        if self.plan.folds {
+            return Ok(marks);
+        }
+        self.mark_shown(&mut marks);
+        Ok(marks)
+    }
+
+    /// For each state whether it is stuck: no act leads on from it, and not every processor is done
+    /// there. The graph is as before, but for the state of its machine.
     ///
     /// # Errors
     ///
-    /// There is not enough memory.
-    pub fn stuck(&self, alloc: Global) -> Result<Vec<bool>, Memory>
-        requires graph { IsGraph self.now }
-        requires whole { IsWhole self.now }
-        ensures { IfOk result (λ marks. AreStuck self.now marks.items) }
+    /// There is not enough memory. Or an act led to the number of another state, and changed nothing
+    /// that is seen of its processor: no row does that.
+    pub fn stuck(&mut self, alloc: Global) -> Result<Vec<bool>, Memory>
+        requires graph { IsGraph self.old }
+        requires whole { IsWhole self.old }
+        ensures marks { IfOk result (λ marks. AreStuck self.old marks.items) }
+        ensures graph { IsGraph self.new }
+        ensures whole { IsWhole self.new }
+        ensures same { IsReloaded self.old self.new }
     {
         runs_keep();
         acts_change_little();
-        let mut marks = self.finished(alloc)?;
-        for state in 0..self.states() {
-            self.mark_going(&mut marks, state);
-        }
+        let mut marks = self.shown(alloc)?;
+        mark_going(
+            &self.space,
+            &self.book,
+            &self.plan,
+            &mut self.machine,
+            &mut marks,
+        )?;
         turn(&mut marks);
         Ok(marks)
     }

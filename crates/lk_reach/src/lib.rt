@@ -26,7 +26,6 @@ mod key;
 mod keys;
 mod kinds;
 mod laws;
-mod lost;
 mod making;
 mod numbers;
 mod order;

@@ -1,14 +1,17 @@
 // Marks of parts. A part makes a row or none, and is done or not, whichever state has it. There are far
 // fewer parts than states, and they are far larger than marks.
 
-ghost use Rattle.std.specs.Prelude.{◌≡◌, ◌<◌, ◌≤◌, IfOk, Some, length, replicate, slice_get, true, false};
-ghost use Rattle.lk_rows.specs.Machine.{Machine as MachineValue};
+ghost use Rattle.std.specs.Prelude.{◌≡◌, ◌≢◌, ◌<◌, ◌≤◌, IfOk, Some, length, replicate, slice_get, true, false};
+ghost use Rattle.lk_rows.specs.Machine.{CpuState as CpuValue, Machine as MachineValue};
+ghost use Rattle.lk_machine.specs.Parts.{row_of};
+ghost use Rattle.lk_idle.specs.Alike.{AreAlike};
 ghost use Rattle.lk_reach.specs.declared.key.Key.{Key as KeyValue};
 ghost use Rattle.lk_reach.specs.Ends.{AreOvers};
 ghost use Rattle.lk_reach.specs.Reach.{AreOver};
 ghost use Rattle.lk_reach.specs.Rows.{AreUsed, AreUsedNow, MakesAt, MakesMarked};
 ghost use Rattle.lk_reach.specs.Space.{Keeps};
 
+use crate::ends::sight::other_row;
 use crate::ends::{is_marked, mark};
 use crate::graph::add_mark;
 use crate::space::{Space, is_row};
@@ -48,6 +51,20 @@ fn makes_marked(parts: &[CpuState], marks: &Vec<bool>, row: Pc) -> bool
         }
     }
     false
+}
+
+// Whether two of these parts make different rows.
+fn differ_at(parts: &[CpuState], part: usize, other: usize) -> bool
+    ensures { result ≡ true → (x y : CpuValue) → slice_get parts.now part ≡ Some x
+        → slice_get parts.now other ≡ Some y → row_of x ≢ row_of y }
+{
+    if part == other {
+        return false;
+    }
+    match (parts.get(part), parts.get(other)) {
+        (Some(one), Some(next)) => other_row(one.next_row(), next.next_row()),
+        _ => false,
+    }
 }
 
 // For each of these parts whether it is done.
@@ -90,6 +107,24 @@ impl Space {
             }
         }
         true
+    }
+
+    /// Whether one of the first processors makes another row at a state than at another one.
+    pub(crate) fn makes_other(&self, state: usize, then: usize, cpus: u32) -> bool
+        requires few { cpus ≤ 8 }
+        requires there { state < length self.now.keys }
+        requires other { then < length self.now.keys }
+        ensures { result ≡ true → (s t : MachineValue) → Keeps self.now state s
+            → Keeps self.now then t → length s.cpus ≡ cpus → length t.cpus ≡ cpus → ¬ AreAlike t s }
+    {
+        for cpu in 0..cpus {
+            let part = self.keys.part(state, cpu);
+            let other = self.keys.part(then, cpu);
+            if differ_at(&self.parts.items, part, other) {
+                return true;
+            }
+        }
+        false
     }
 
     // Marks the parts of a state's first processors.

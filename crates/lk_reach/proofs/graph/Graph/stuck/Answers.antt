@@ -1,52 +1,32 @@
-use Rattle.std.proofs.Common.{arith, ◌≡◌, ◌∙◌, ℕ, Some, true, false, subst, sym, inl, inr}
-use Rattle.std.proofs.lemmas.Bool.{cases_eq}
-use Rattle.std.proofs.lemmas.Option.{slice_get_within}
-use Rattle.std.specs.Prelude.{slice_get}
-use Rattle.lk_reach.specs.Ends.{StaysAt}
+use Rattle.std.proofs.Common.{arith, refl}
 use Rattle.lk_reach.proofs.Closed.{Laws}
-use Rattle.lk_reach.proofs.Ending.{stuck_at}
+use Rattle.lk_reach.proofs.Ending.{stuck_all}
+use Rattle.lk_reach.proofs.apart.Finding.{graph_same}
 use Rattle.lk_reach.proofs.graph.Graph.stuck.Goals as goal
 
-pub loop-state-init : goal.loop-state-init
-loop-state-init c =
-    let ends = c.in_ok-marks.ensures in
+pub mark_going-requires : goal.mark_going-requires
+mark_going-requires c =
+    let is = c.requires.graph in
+    let few = is.few in
+    let cpus = is.cpus in
+    let such = is.such.cpus in
     record {
-      count = ends.count;
-      waits = ends.no;
-      stays = λ k off low. absurd (omega (arith, low));
-    }
-
-pub loop-state-preserved : goal.loop-state-preserved
-loop-state-preserved c =
-    let inv = c.loop-state.invariant in
-    let going = c.mark_going.ensures in
-    let n = c.loop-state.state in
-    record {
-      count = going.count ∙ inv.count;
-      waits = λ k off s x. inv.waits k (going.off k off) s x;
-      stays = λ k off low.
-          elim (cases_eq k n) [
-            | inl is ↦ subst (λ (h : ℕ). StaysAt c.args.self.now.book h) (sym is)
-                (going.stays (subst (λ (h : ℕ). slice_get c.mark_going.new.marks.items h ≡ Some false) is off))
-            | inr ne ↦ inv.stays k (going.off k off) (omega (arith, low, ne))
-          ];
+      few = omega (arith, few, cpus, such);
+      such = is.such;
+      may = record { begun = is.begun; moves = is.explored.acts.only; good = is.explored.good };
+      going = c.in_ok-marks.ensures;
     }
 
 pub returns : goal.returns
 returns c =
     let laws : Laws = record { runs = c.runs_keep.ensures.run; setup = c.acts_change_little.ensures.setup } in
     let g = c.args.self.now in
-    let inv = c.loop-state.invariant in
-    let t = c.turn.ensures in
-    let end = c.loop-state-test.false in
-    let all = c.states-state-end.ensures in
+    let m = c.mark_going.new.machine in
+    let such = c.mark_going.ensures.such in
     record {
-      count = t.count ∙ inv.count;
-      yes = λ k on s x.
-          let off = t.each k true on in
-          let low = slice_get_within c.loop-state.marks.items k false off in
-          let count = inv.count in
-          let whole = c.requires.whole in
-          stuck_at laws g c.requires.graph k (omega (arith, low, count, whole))
-          (inv.stays k off (omega (arith, low, count, end, all))) s x (inv.waits k off s x);
+      marks = stuck_all laws g c.requires.graph c.mark_going.new.marks.items c.turn.new.marks.items c.requires.whole
+          c.in_ok-mark_going.ensures.going c.in_ok-mark_going.ensures.stays c.turn.ensures;
+      graph = graph_same g m such c.requires.graph;
+      whole = c.requires.whole;
+      same = record { such = such; same = refl };
     }

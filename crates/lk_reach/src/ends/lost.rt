@@ -2,7 +2,7 @@
 
 ghost use Rattle.std.specs.Prelude.{◌≡◌, ◌≢◌, ℕ, IfNone, IfOk, IfSome, List, Some, slice_get, true};
 ghost use Rattle.lk_names.specs.declared.events.Act.{Act as ActValue};
-ghost use Rattle.lk_reach.specs.Ends.{IsFirst, IsShortestToDoom, IsShortestToEnd, IsWayToStuck, NobodyIsDoomed};
+ghost use Rattle.lk_reach.specs.Ends.{IsFirst, IsShortestToDoom, IsShortestToEnd, IsShortestToStuck, NobodyIsDoomed, NobodyIsStuck};
 ghost use Rattle.lk_reach.specs.Reach.{AreMoves, AreOver, state_after};
 ghost use Rattle.lk_reach.specs.Told.{IsGraph, IsWhole};
 
@@ -76,15 +76,18 @@ impl Graph {
         }
     }
 
-    /// The acts of a schedule to a stuck state, or `None` if none was seen.
+    /// The acts of a shortest schedule to a stuck state, or `None` if none is reached.
     ///
     /// # Errors
     ///
-    /// There is not enough memory.
-    pub fn acts_to_stuck(&self, alloc: Global) -> Result<Option<Vec<Act>>, Memory>
-        requires graph { IsGraph self.now }
-        requires whole { IsWhole self.now }
-        ensures { IfOk result (λ found. IfSome found (λ acts. IsWayToStuck self.now acts.items)) }
+    /// Those of `stuck`.
+    pub fn acts_to_stuck(&mut self, alloc: Global) -> Result<Option<Vec<Act>>, Memory>
+        requires graph { IsGraph self.old }
+        requires whole { IsWhole self.old }
+        ensures some { IfOk result
+            (λ found. IfSome found (λ acts. IsShortestToStuck self.old acts.items)) }
+        ensures none { IfOk result (λ found. IfNone found (NobodyIsStuck self.old)) }
+        ensures graph { IsGraph self.new }
     {
         runs_keep();
         acts_change_little();

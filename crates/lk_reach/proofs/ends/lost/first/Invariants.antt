@@ -1,6 +1,6 @@
 use Rattle.std.proofs.Common.{◌≡◌, ◌<◌, ℕ, Some, true}
 use Rattle.std.specs.Prelude.{slice_get}
-use Rattle.lk_reach.proofs.lost.first.Given as goal
+use Rattle.lk_reach.proofs.ends.lost.first.Given as goal
 
 -- none of the marks so far is set
 abbrev pub invariant-loop-at : goal.invariant-loop-at

@@ -1,0 +1,50 @@
+use Rattle.std.proofs.Common.{arith, ap, get_or, length, sym, subst}
+use Rattle.std.proofs.lemmas.Option.{slice_get-get_or}
+use Rattle.lk_names.specs.declared.events.Act.TheVariants as act
+use Rattle.lk_rows.specs.declared.setup.Setup.{Setup}
+use Rattle.lk_reach.specs.Explored.{IsSuch}
+use Rattle.lk_reach.specs.Sights.{LeadsOnBy, MayTry}
+use Rattle.lk_reach.proofs.ends.staying.leads_on.Goals as goal
+
+pub leads_by-requires : goal.leads_by-requires
+leads_by-requires c =
+    let inv = c.loop-number.invariant in
+    let back = sym inv.setup in
+    let cpus = inv.cpus in
+    let before = c.requires.such.cpus in
+    let few = c.requires.few in
+    let low = c.loop-number-test.true in
+    let size = ap length c.acts-number-end.ensures in
+    record {
+      few = omega (arith, cpus, before, few);
+      such = subst (λ (q : Setup). IsSuch q c.loop-number.machine) back inv;
+      may = subst (λ (q : Setup). MayTry c.args.plan.now q c.args.space.now) back c.requires.may;
+      there = c.requires.there;
+      act = omega (arith, low, size);
+    }
+
+pub returns-then-leads_by : goal.returns-then-leads_by
+returns-then-leads_by c =
+    let inv = c.loop-number.invariant in
+    let acts = c.args.plan.now.acts.items in
+    let i = c.loop-number.number in
+    let low = c.loop-number-test.true in
+    let size = ap length c.acts-number-end.ensures in
+    let a = get_or acts i (act.Step 0) in
+    let at = slice_get-get_or acts i (act.Step 0) (omega (arith, low, size)) in
+    record {
+      on = λ yes. record {
+        act = a;
+        move = c.requires.may.moves i a at;
+        other = subst (λ (q : Setup). LeadsOnBy c.args.plan.now q c.args.space.now c.args.state a) inv.setup
+            (c.leads_by.ensures.other c.if-leads_by.true a at);
+      };
+      such = subst (λ (q : Setup). IsSuch q c.leads_by.new.machine) inv.setup c.leads_by.ensures.such;
+    }
+
+pub loop-number-preserved : goal.loop-number-preserved
+loop-number-preserved c =
+    subst (λ (q : Setup). IsSuch q c.leads_by.new.machine) c.loop-number.invariant.setup c.leads_by.ensures.such
+
+pub returns : goal.returns
+returns c = record { on = λ yes. cc; such = c.loop-number.invariant }

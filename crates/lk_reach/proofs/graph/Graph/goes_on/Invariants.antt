@@ -1,7 +1,0 @@
-use Rattle.std.proofs.Common.{◌≡◌, ◌<◌, ℕ}
-use Rattle.lk_reach.specs.Explored.{LeadsTo}
-use Rattle.lk_reach.proofs.graph.Graph.goes_on.Given as goal
-
--- none of the acts so far leads on
-abbrev pub invariant-loop-act : goal.invariant-loop-act
-invariant-loop-act l = (i j : ℕ) → i < l.act → LeadsTo l.self.book l.state i j → j ≡ l.state
