@@ -141,11 +141,14 @@ module _ {w : Call} {P : Frame → Type 0} {x y : Cpu} where
   pub goes_turns : {a : Pc} (r : Rest) → Steps w a P (row_at r) (frame_at r) x y → Fits w.domain.now.plan r y → Turns w a P (Some r) x y
   goes_turns r step fits = rests r step.rest fits (λ s t h. (step.goes s t h).looked)
 
--- after a step that changed nothing
+-- a step that changed nothing leaves it where it stands
+pub still_steps : (w : Call) {x y : Cpu} (c : Pc) (P : Frame → Type 0) → KeepsRest x y → view_of y ≡ view_of x → Steps w c P c P x y
+still_steps w {x} {y} c P rest same = record { rest = rest; goes = way.same_waits w.domain.now w.verb w.lock x y rest same c P }
+
+-- it rests after such a step
 pub still_turns : (w : Call) {x y : Cpu} (r : Rest) → KeepsRest x y → view_of y ≡ view_of x → Fits w.domain.now.plan r y
     → Turns w (row_at r) (frame_at r) (Some r) x y
-still_turns w {x} {y} r rest same fits =
-    rests r rest fits (λ s t h. (way.same_waits w.domain.now w.verb w.lock x y rest same (row_at r) (frame_at r) s t h).looked)
+still_turns w r rest same = goes_turns r (still_steps w (row_at r) (frame_at r) rest same)
 
 -- a row to a place that is known by now
 module _ {w : Call} {a : Pc} {P : Frame → Type 0} {b q : Pc} {Q : Frame → Type 0} {x y : Cpu} (is : b ≡ q) (step : Steps w a P b Q x y) where

@@ -28,12 +28,11 @@ impl Pace {
     // Before the next turn, which begins with this row. Where every call that waits polls the word of
     // the lock (V1, N1), its pauses grow, so that they leave the word to who takes it. Who queues is
     // the only one at its word, and polls that often, since each handoff waits for a poll. Where the
-    // exchange of the tail met another word (G4), another call came, and the next exchange is not to
-    // wait for it.
+    // exchange of the tail met another word (G4) there was no queue, and a short pause leaves the word
+    // to who takes the lock again and again.
     pub(crate) fn pause(&mut self, row: Pc) {
         match row {
             Pc::V1 | Pc::N1 => self.backoff.snooze(),
-            Pc::G4 => {}
             _ => self.pause_shortly(),
         }
     }

@@ -13,7 +13,7 @@ pub(crate) enum Rest {
     Pends,
     // N1: it waits without a node.
     Bare,
-    // G4: its exchange of the tail met another word.
+    // G4: its exchanges of the tail met other words.
     Joins(Joining),
     // G6: it queues, and waits for its flag.
     Queues(NodeName),

@@ -39,6 +39,9 @@ use lk_domain::Cpu;
 use lk_rows::{Flag, Pc, after_fast};
 use lk_word::NodeName;
 
+// How often a turn exchanges the tail at most.
+const EXCHANGES: u32 = 8;
+
 impl<'a> Call<'a> {
     // From the place to which the first row led that met this word, which was not free.
     #[inline(never)]
@@ -218,19 +221,31 @@ impl<'a> Queued<'a> {
         self.queue(cpu, met)
     }
 
-    // From G4: it joins the queue, if the word is still the one that it met last.
+    // From G4: it joins the queue. Where the word is not the one that it met last and there is a queue, it
+    // tries again in the same turn, so that the word has little time to change once more: each exchange
+    // that fails takes the word's line of the cache from who hands off.
     fn queue(&self, cpu: &mut Cpu, met: u64) -> Option<Rest>
         requires { node.At self.now G4 node.Owns cpu.old }
         ensures { node.Turns self.now G4 node.Owns result cpu.old cpu.new }
     {
-        match self.exchange_tail(cpu, met) {
-            Tail::First => self.lead(cpu, None),
-            Tail::Behind(prev) => {
-                self.link(cpu, prev);
-                self.wait_turn(cpu)
+        let own = self.own;
+        let mut met = met;
+        for _ in 0..EXCHANGES {
+            match self.exchange_tail(cpu, met) {
+                Tail::First => return self.lead(cpu, None),
+                Tail::Behind(prev) => {
+                    self.link(cpu, prev);
+                    return self.wait_turn(cpu);
+                }
+                Tail::Other(other) => {
+                    met = other;
+                    if met < self.call.domain.plan.tail_unit() {
+                        return Some(Rest::Joins(Joining { own, met }));
+                    }
+                }
             }
-            Tail::Other(met) => Some(Rest::Joins(Joining { own: self.own, met })),
         }
+        Some(Rest::Joins(Joining { own, met }))
     }
 
     // From G6, until its predecessor has handed off.
