@@ -17,7 +17,6 @@ use Rattle.lk_domain.proofs.cpu.Cpu.TheSendSync as cpu
 use Rattle.lk_run.proofs.waiter.Waiter.TheSendSync as waiter
 use Rattle.lk_run.proofs.read_waiter.ReadWaiter.TheSendSync as reader
 use Rattle.lk_run.proofs.write_waiter.WriteWaiter.TheSendSync as writer
-use Rattle.lk_port.proofs.last.Last.TheSendSync as last
 use Rattle.lk_port.proofs.pending.Pending.TheSendSync as pending
 use Rattle.lk_domain.specs.contracts.domain.Domain as Domain
 use Rattle.lk_domain.specs.contracts.plan.Plan as Plan
@@ -50,4 +49,4 @@ share_field_send = search (sendable, crosses, share_send, domain_send, domain_sy
 
 pub port_send : IsSend Port.the_row
 port_send =
-    search (sendable, crosses, share_send, share_field_send, cpu.the_send, cpu.the_field_send, waiter.the_send, waiter.the_field_send, reader.the_send, reader.the_field_send, writer.the_send, writer.the_field_send, pv_waiter.the_send, pv_waiter.the_field_send, pending.the_send, pending.the_field_send, last.the_send, last.the_field_send, list.the_send, option.the_send, option.the_field_send) depth 40
+    search (sendable, crosses, share_send, share_field_send, cpu.the_send, cpu.the_field_send, waiter.the_send, waiter.the_field_send, reader.the_send, reader.the_field_send, writer.the_send, writer.the_field_send, pv_waiter.the_send, pv_waiter.the_field_send, pending.the_send, pending.the_field_send, list.the_send, option.the_send, option.the_field_send) depth 40

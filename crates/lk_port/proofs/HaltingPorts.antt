@@ -23,7 +23,6 @@ use Rattle.lk_domain.specs.Plays.{carried_of}
 use Rattle.lk_domain.specs.Seats.{IsDealt, IsStill, calls_of, ledger_of}
 use Rattle.lk_domain.specs.declared.cpu.Cpu.{Cpu}
 use Rattle.lk_domain.specs.declared.domain.Domain.{Domain}
-use Rattle.lk_domain.specs.declared.domain.LockId.{LockId}
 use Rattle.lk_domain.specs.declared.view.View.{View}
 use Rattle.lk_pvdomain.specs.PvCalls.{HasFreed, HasMissed, IsResting, own_node, without}
 use Rattle.lk_pvdomain.specs.PvPaths.{Ended, Start, Took, first_of, starting}
@@ -36,8 +35,7 @@ use Rattle.lk_pvdomain.proofs.ways.Frees.{out_kept}
 use Rattle.lk_port.specs.Asking.{MayCall}
 use Rattle.lk_port.specs.Ports.{Frees, HasUnlocked, Stays}
 use Rattle.lk_port.specs.Shares.{By, domain_of, may_halt}
-use Rattle.lk_port.specs.Standing.{AreHeld, IsHome, IsLast, Stands, StandsHalting, are_home}
-use Rattle.lk_port.specs.declared.last.Last.TheVariants as last
+use Rattle.lk_port.specs.Standing.{AreHeld, IsHome, Stands, StandsHalting, are_home}
 use Rattle.lk_port.specs.declared.pending.Pending.{Pending}
 use Rattle.lk_port.specs.declared.pending.Pending.TheVariants.{Free, Spins, Reads, Writes, Halts}
 use Rattle.lk_port.specs.declared.port.Port.{Port}
@@ -45,7 +43,7 @@ use Rattle.lk_port.specs.declared.share.Share.{Share}
 use Rattle.lk_port.specs.declared.share.Share.TheVariants as family
 use Rattle.lk_port.proofs.Ports as running
 use Rattle.lk_port.proofs.Ports.{and_left, and_right, apart}
-use Rattle.lk_port.proofs.Shares.{IsHalting, halting, halts_by, same_domain}
+use Rattle.lk_port.proofs.Shares.{IsHalting, halting, halts_by}
 
 -- a lock was taken, or was freed
 
@@ -154,13 +152,6 @@ pub taken : (d : PvDomain) (v : Verb) (l : ℕ) (own : NodeName) (s : Start) (b 
     → l < locks_of d.domain.plan → Took d.domain v l own s b.seat → IsResting (calls_of b)
     → IsResting (calls_of b) × IsHome d (set bs l true) (calls_of b).holds (ledger_of b)
 taken d v l own s b bs was low has rests = (rests, took d v l own s b.seat bs was low has)
-
--- the last call took it
-pub has_taken : (s : Share) (d : PvDomain) {o : Pending} (cpu : Cpu) (lock : LockId) {c n : ℕ} {m : Manner} {hs : List Hold} → IsHalting s d → o ≡ Free
-    → lock.index < locks_of d.domain.plan → (calls_of cpu).holds ≡ hold c (lock_name lock.index) m n ∷ hs → IsLast (domain_of s) o cpu (last.Took lock)
-has_taken s d {o} cpu lock is free low holds =
-    subst (λ (e : Domain). IsLast e o cpu (last.Took lock)) (sym (same_domain s d is))
-    (running.has_taken d.domain cpu lock free low (d.domain.lawful.spins d.halting lock.index) holds)
 
 -- what a call holds that waits or has halted, is what it held when it began
 rest_holds : (d : Domain) (l : ℕ) (own : NodeName) (r : PvRest) (s : Start) (a : Seat Slot View) → Rests d l own r s a → a.me.0.calls.holds ≡ s.holds

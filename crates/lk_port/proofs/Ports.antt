@@ -1,7 +1,8 @@
 -- How a processor stands after a call, where waiters run.
 use Rattle.std.proofs.Common.{◌≡◌, ◌≢◌, ℕ, ◌+◌, ◌<◌, List, [], ◌∷◌, ◌++◌, length, replicate, set, Bool, true, false, refl, sym, ap, ◌∙◌, subst, eqb, arith}
+use Rattle.std.specs.Bool.{beq}
 use Rattle.std.specs.Prelude.{if◌then◌else◌, ◌&&◌, ◌||◌, not, None, Some, Option, slice_index_or}
-use Rattle.std.proofs.lemmas.Bool.{eqb-true}
+use Rattle.std.proofs.lemmas.Bool.{true≢false}
 use Rattle.std.proofs.lemmas.List.{get_or_push, get_or_append_left, length-append, length-replicate, length-set, get_or-set_same, get_or-set_other}
 use Rattle.lk_names.specs.Names.{same_lock}
 use Rattle.lk_names.specs.declared.holder.Manner.{Manner}
@@ -33,7 +34,7 @@ use Rattle.lk_port.specs.Ports.{IsPending, has_halted}
 use Rattle.lk_port.specs.Shares.{domain_of, may_halt}
 use Rattle.lk_port.specs.Standing.{are_home, way_of, AreNoted, IsIdle, IsLast, IsReady, Stands, StandsRunning}
 use Rattle.lk_port.specs.declared.answer.Answer.{Answer}
-use Rattle.lk_port.specs.declared.last.Last.TheVariants.{Took, Freed, Other}
+use Rattle.lk_port.specs.declared.last.TheConstants.{NONE}
 use Rattle.lk_port.specs.declared.pending.Pending.{Pending}
 use Rattle.lk_port.specs.declared.pending.Pending.TheVariants.{Free}
 use Rattle.lk_port.specs.declared.port.Port.{Port}
@@ -264,52 +265,32 @@ came d v l y s b told ws was has low kind =
 pub same_kind : (d : Domain) {k : Kind} (a b : LockId) → b ≡ a → kind_at d.plan a.index ≡ k → kind_at d.plan b.index ≡ k
 same_kind d {k} a b e kind = subst (λ (x : LockId). kind_at d.plan x.index ≡ k) (sym e) kind
 
--- what the last call came to: something else, a spinlock that it took, or one that it freed
+-- no spinlock is that of the last call, or one is
 
-pub other : {d : Domain} {o : Pending} {cpu : Cpu} → IsLast d o cpu Other
-other {d} {o} {cpu} =
-    record {
-      took = λ lock e. let z : Other ≡ Took lock = e in absurd (cc z);
-      freed = λ lock e. let z : Other ≡ Freed lock = e in absurd (cc z);
-    }
+pub other : {s : Share} {o : Pending} → IsLast s o NONE
+other {s} {o} ne = absurd (ne refl)
 
-holds_taken : (c l n : ℕ) (m : Manner) (hs : List Hold) → holds_in (hold c (lock_name l) m n ∷ hs) l ≡ true
-holds_taken c l n m hs = ap (λ (b : Bool). if b then true else holds_in hs l) (same_lock-self (lock_name l))
+pub next : {s : Share} {o : Pending} {cpu : Cpu} {l : ℕ} {held : Bool} → may_halt s ≡ false → IsReady (domain_of s) o cpu Spin l held → IsLast s o l
+next {s} {o} {cpu} {l} {held} runs may ne = record { runs = runs; free = may.free; lock = may.lock; kind = may.kind }
 
-pub has_taken : (d : Domain) {o : Pending} (cpu : Cpu) (lock : LockId) {c n : ℕ} {m : Manner} {hs : List Hold} → o ≡ Free
-    → lock.index < locks_of d.plan → kind_at d.plan lock.index ≡ Spin → (calls_of cpu).holds ≡ hold c (lock_name lock.index) m n ∷ hs
-    → IsLast d o cpu (Took lock)
-has_taken d {o} cpu lock {c} {n} {m} {hs} free low kind holds =
-    let has = ap (λ (xs : List Hold). holds_in xs lock.index) holds ∙ holds_taken c lock.index n m hs in
-    record {
-      took = λ x e.
-          let is : lock ≡ x = cc e in
-          subst (λ (y : LockId). IsReady d o cpu Spin y.index true) is (record { free = free; lock = low; kind = kind; holds = has });
-      freed = λ x e. let z : Took lock ≡ Freed x = e in absurd (cc z);
-    }
+-- where a call waited none was
 
-pub has_freed : (d : Domain) {o : Pending} (a b : Cpu) (lock : LockId) → IsReady d o a Spin lock.index true
-    → holds_in (calls_of b).holds lock.index ≡ false → IsLast d o b (Freed lock)
-has_freed d {o} a b lock was none =
-    record {
-      took = λ x e. let z : Freed lock ≡ Took x = e in absurd (cc z);
-      freed = λ x e.
-          let is : lock ≡ x = cc e in
-          subst (λ (y : LockId). IsReady d o b Spin y.index false) is
-          (record { free = was.free; lock = was.lock; kind = was.kind; holds = none });
-    }
+abbrev pub is_free : Pending → Bool
+is_free Free = true
+is_free _ = false
 
--- so a call may begin on that lock
-pub allowed : (d : Domain) (o : Pending) (cpu : Cpu) (last l : ℕ) (b held : Bool) → IsReady d o cpu Spin last b
-    → eqb last l ≡ true → held ≡ b → IsReady d o cpu Spin l held
-allowed d o cpu last l b held was same has =
-    let is : last ≡ l = eqb-true last l same in
-    record {
-      free = was.free;
-      lock = subst (λ (n : ℕ). n < locks_of d.plan) is was.lock;
-      kind = ap (λ (n : ℕ). kind_at d.plan n) (sym is) ∙ was.kind;
-      holds = ap (λ (n : ℕ). holds_in (calls_of cpu).holds n) (sym is) ∙ (was.holds ∙ sym has);
-    }
+pub waited : {s : Share} {o p : Pending} {l : ℕ} → is_free o ≡ false → IsLast s o l → IsLast s p l
+waited {s} {o} {p} {l} waits last ne = absurd (true≢false (sym (ap is_free (last ne).free) ∙ waits))
+
+-- where waiters halt none is
+pub none : {s : Share} {o p : Pending} {l : ℕ} → may_halt s ≡ true → IsLast s o l → IsLast s p l
+none {s} {o} {p} {l} halts last ne = absurd (true≢false (sym halts ∙ (last ne).runs))
+
+pub same_bool : (a b : Bool) → beq a b ≡ true → a ≡ b
+same_bool true true e = refl
+same_bool true false e = sym e
+same_bool false true e = e
+same_bool false false e = refl
 
 -- a call that is refused with one answer, was refused with it
 pub refused : (p : Port) (k : Kind) (l : ℕ) (a b : Answer) → a ≡ b → Refuses p k l a → Refuses p k l b

@@ -1,5 +1,5 @@
 -- How a processor stands between two calls of its port.
-use Rattle.std.specs.Prelude.{◌≡◌, ℕ, ◌<◌, ◌&&◌, not, Bool, true, false, List, [], ◌∷◌, length, None, Some, slice_index_or}
+use Rattle.std.specs.Prelude.{◌≡◌, ◌≢◌, ℕ, ◌<◌, ◌&&◌, not, Bool, true, false, List, [], ◌∷◌, length, None, Some, slice_index_or}
 use Rattle.lk_names.specs.declared.holder.Manner.{Manner}
 use Rattle.lk_names.specs.declared.holder.Manner.TheVariants as manner
 use Rattle.lk_names.specs.declared.names.Kind.{Kind}
@@ -10,7 +10,6 @@ use Rattle.lk_domain.specs.Plans.{kind_at, locks_of}
 use Rattle.lk_domain.specs.Seats.{calls_of, ledger_of}
 use Rattle.lk_domain.specs.declared.cpu.Cpu.{Cpu}
 use Rattle.lk_domain.specs.declared.domain.Domain.{Domain}
-use Rattle.lk_domain.specs.declared.domain.LockId.{LockId}
 use Rattle.lk_domain.specs.declared.plan.Plan.{Plan}
 use Rattle.lk_pvdomain.specs.PvCalls.{IsResting}
 use Rattle.lk_pvdomain.specs.PvPaths as halting
@@ -20,9 +19,8 @@ use Rattle.lk_run.specs.Phases.{Start}
 use Rattle.lk_run.specs.Polled as locker
 use Rattle.lk_run.specs.PolledRead as reader
 use Rattle.lk_run.specs.PolledWrite as writer
-use Rattle.lk_port.specs.Shares.{By}
-use Rattle.lk_port.specs.declared.last.Last.{Last}
-use Rattle.lk_port.specs.declared.last.Last.TheVariants.{Took, Freed}
+use Rattle.lk_port.specs.Shares.{By, domain_of, may_halt}
+use Rattle.lk_port.specs.declared.last.TheConstants.{NONE}
 use Rattle.lk_port.specs.declared.pending.Pending.{Pending}
 use Rattle.lk_port.specs.declared.pending.Pending.TheVariants.{Free, Spins, Reads, Writes, Halts}
 use Rattle.lk_port.specs.declared.share.Share.{Share}
@@ -89,8 +87,12 @@ pub record IsReady (d : Domain) (o : Pending) (cpu : Cpu) (k : Kind) (l : ℕ) (
   pub kind : kind_at d.plan l ≡ k
   pub holds : holds_in (calls_of cpu).holds l ≡ held
 
--- What the last call came to is so still: a spinlock that it took is held, and one that it freed is not, and no
--- call waits.
-pub record IsLast (d : Domain) (o : Pending) (cpu : Cpu) (last : Last) : Type 0 where
-  pub took : (lock : LockId) → last ≡ Took lock → IsReady d o cpu Spin lock.index true
-  pub freed : (lock : LockId) → last ≡ Freed lock → IsReady d o cpu Spin lock.index false
+-- Where it names a spinlock, the waiters run and no call waits.
+pub record IsNext (share : Share) (o : Pending) (l : ℕ) : Type 0 where
+  pub runs : may_halt share ≡ false
+  pub free : o ≡ Free
+  pub lock : l < locks_of (domain_of share).plan
+  pub kind : kind_at (domain_of share).plan l ≡ Spin
+
+abbrev pub IsLast : Share → Pending → ℕ → Type 0
+IsLast share o last = last ≢ NONE → IsNext share o last

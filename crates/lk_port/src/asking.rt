@@ -1,38 +1,49 @@
 // Whether a call of a port may begin, and looks, which change nothing.
-ghost use Rattle.std.specs.Prelude.{◌≡◌, ◌<◌, None, Some, true, false, IfSome};
+ghost use Rattle.std.specs.Prelude.{◌≡◌, ◌≢◌, ◌<◌, None, Some, true, false, IfSome};
 ghost use Rattle.lk_names.specs.declared.holder.Manner.TheVariants.{Reads, Writes};
 ghost use Rattle.lk_names.specs.declared.names.Kind.TheVariants.{Rw, Spin};
-ghost use Rattle.lk_domain.specs.Plans.{locks_of};
+ghost use Rattle.lk_domain.specs.Plans.{kind_at, locks_of};
 ghost use Rattle.lk_port.specs.Asking.{MayCall, Refuses, domain_in, has, way};
 ghost use Rattle.lk_port.specs.Shares.{may_halt};
 ghost use Rattle.lk_port.specs.declared.answer.Answer.{Answer};
 ghost use Rattle.lk_port.specs.declared.answer.Asked.TheVariants.{Refused, Runs, Halts};
 
 use crate::answer::{Answer, Asked};
-use crate::last::Last;
+use crate::last::{NEAR, NONE};
 use crate::pending::Pending;
 use crate::port::Port;
 use lk_domain::LockId;
 use lk_names::Kind;
 
 impl Port {
-    // Whether a call may begin on a spinlock that the processor holds, or does not, because the last call
-    // took this spinlock, or freed it. A no says nothing.
-    #[inline]
+    // Whether a call may begin on a spinlock that the processor holds, or does not, because it is the one
+    // of the last call. A no says nothing.
+    #[inline(always)]
     fn last_allows(&self, lock: LockId, held: bool) -> bool
-        ensures { result ≡ true → MayCall self.now Spin lock.index held }
+        ensures may { result ≡ true → MayCall self.now Spin lock.index held }
+        ensures runs { result ≡ true → may_halt self.now.share ≡ false }
     {
-        match self.last {
-            Last::Took(last) => held && last.index == lock.index,
-            Last::Freed(last) => !held && last.index == lock.index,
-            Last::Other => false,
+        if lock.index == NONE {
+            return false;
         }
+        if lock.index != self.last {
+            return false;
+        }
+        self.cpu.holds(lock) == held
     }
 
-    // Whether a call may begin on a spinlock that the processor holds, or does not, and by whose calls. The
-    // first test is all that a thread meets that takes one lock and frees it, time after time: an atomic
-    // operation waits until the tests before it are done, and what they load waits for the atomic operation
-    // before.
+    // The same, for a lock whose mark lies in the processor. These tests are all that a thread meets that
+    // takes one lock and frees it, time after time: an atomic operation waits until the tests before it are
+    // done, and what they load waits for the atomic operation before.
+    #[inline(always)]
+    pub(crate) fn allows(&self, lock: LockId, held: bool) -> bool
+        ensures may { result ≡ true → MayCall self.now Spin lock.index held }
+        ensures runs { result ≡ true → may_halt self.now.share ≡ false }
+    {
+        lock.index < NEAR && self.last_allows(lock, held)
+    }
+
+    // Whether a call may begin on a spinlock that the processor holds, or does not, and by whose calls.
     #[inline]
     pub(crate) fn asks(&self, lock: LockId, held: bool) -> Asked
         ensures runs { result ≡ Runs → MayCall self.now Spin lock.index held
@@ -41,15 +52,19 @@ impl Port {
             × (may_halt self.now.share ≡ true) }
         ensures why { (a : Answer) → result ≡ Refused a → Refuses self.now Spin lock.index a }
     {
-        if !self.last_allows(lock, held) {
-            if let Some(answer) = self.refuses(lock, Kind::Spin, held) {
-                return Asked::Refused(answer);
-            }
-        }
         if self.share.halts() {
-            return Asked::Halts;
+            return match self.refuses(lock, Kind::Spin, held) {
+                Some(answer) => Asked::Refused(answer),
+                None => Asked::Halts,
+            };
         }
-        Asked::Runs
+        if self.last_allows(lock, held) {
+            return Asked::Runs;
+        }
+        match self.refuses(lock, Kind::Spin, held) {
+            Some(answer) => Asked::Refused(answer),
+            None => Asked::Runs,
+        }
     }
 
     // Why no call may begin on a lock of this kind that the processor holds, or does not, if there is
@@ -62,11 +77,10 @@ impl Port {
         if !matches!(self.pending, Pending::Free) {
             return Some(Answer::Pending);
         }
-        let domain = self.share.domain();
-        if lock.index >= domain.locks() {
+        if lock.index >= self.share.domain().locks() {
             return Some(Answer::NoLock);
         }
-        if domain.kind(lock) != kind {
+        if !self.is_of(lock, kind) {
             return Some(Answer::WrongKind);
         }
         let holds = self.has(lock);
@@ -77,6 +91,19 @@ impl Port {
             return Some(Answer::NotHeld);
         }
         None
+    }
+
+    // Whether a lock of its domain is of this kind. Where waiters halt all are spinlocks.
+    #[inline]
+    fn is_of(&self, lock: LockId, kind: Kind) -> bool
+        requires { lock.index < locks_of (domain_in self.now).plan }
+        ensures is { result ≡ true → kind_at (domain_in self.now).plan lock.index ≡ kind }
+        ensures other { result ≡ false → kind_at (domain_in self.now).plan lock.index ≢ kind }
+    {
+        if self.share.halts() {
+            return kind == Kind::Spin;
+        }
+        self.share.domain().kind(lock) == kind
     }
 
     // Whether it holds a lock of its domain.

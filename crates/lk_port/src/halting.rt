@@ -11,7 +11,6 @@ ghost use Rattle.lk_port.specs.declared.answer.Answer.TheVariants as answer;
 ghost use Rattle.lk_port.specs.declared.pending.Pending.TheVariants.{Halts};
 
 use crate::answer::Answer;
-use crate::last::Last;
 use crate::pending::Pending;
 use crate::port::Port;
 use lk_domain::LockId;
@@ -32,8 +31,7 @@ fn is_free(release: PvRelease) -> bool
     }
 }
 
-// Those that `begin` and `unlock` call stay out of these two: there they would make the calls of the other
-// families save their registers.
+// What frees a lock stays out of `unlock`: there it would make the calls of the other families save registers.
 impl Port {
     // True: it has it.
     pub(crate) fn tries_halting(&mut self, lock: LockId) -> bool
@@ -44,16 +42,13 @@ impl Port {
         ensures missed { result ≡ false → Misses lock.index self.old self.new }
     {
         self.stands();
-        self.last = Last::Other;
         let has = pv_try_lock(&mut self.cpu, self.share.halting(), lock);
         if has {
             *self.notes.get_mut(lock.index as usize) = true;
-            self.last = Last::Took(lock);
         }
         has
     }
 
-    #[inline(never)]
     pub(crate) fn begins_halting(&mut self, lock: LockId) -> Answer
         requires may { MayCall self.old Spin lock.index false }
         requires halts { may_halt self.old.share ≡ true }
@@ -67,16 +62,13 @@ impl Port {
         match pv_begin(&mut self.cpu, self.share.halting(), lock) {
             PvTurn::Has => {
                 *self.notes.get_mut(lock.index as usize) = true;
-                self.last = Last::Took(lock);
                 Answer::Done
             }
             PvTurn::Waits(waiter) => {
-                self.last = Last::Other;
                 self.pending = Pending::Halts(waiter);
                 Answer::Waits
             }
             PvTurn::Halts(waiter) => {
-                self.last = Last::Other;
                 self.pending = Pending::Halts(waiter);
                 Answer::Halts
             }
@@ -93,12 +85,10 @@ impl Port {
         ensures waits { result ≡ Waits → has_halted self.new ≡ false }
     {
         self.stands();
-        self.last = Last::Other;
         match pv_poll(&mut self.cpu, self.share.halting(), waiter) {
             PvTurn::Has => {
                 self.pending = Pending::Free;
                 *self.notes.get_mut(waiter.lock.index as usize) = true;
-                self.last = Last::Took(waiter.lock);
                 Answer::Done
             }
             PvTurn::Waits(waiter) => {
@@ -138,10 +128,8 @@ impl Port {
     {
         self.stands();
         let release = pv_try_unlock(&mut self.cpu, self.share.halting(), lock);
-        self.last = Last::Other;
         if is_free(release) {
             *self.notes.get_mut(lock.index as usize) = false;
-            self.last = Last::Freed(lock);
         }
         release
     }

@@ -1,14 +1,7 @@
-// What the last call of a port came to.
+// The spinlock of the last call of a port, by which the next call goes.
 
-use lk_domain::LockId;
+/// No spinlock: no domain has one of this number.
+pub(crate) const NONE: u32 = u32::MAX;
 
-/// What the last call of a port came to, as far as the next one may go by it.
-#[derive(Clone, Copy)]
-pub(crate) enum Last {
-    /// It took this spinlock.
-    Took(LockId),
-    /// It freed this spinlock.
-    Freed(LockId),
-    /// Something else.
-    Other,
-}
+/// A processor has the marks of so many locks in itself.
+pub(crate) const NEAR: u32 = 32;

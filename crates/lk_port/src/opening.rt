@@ -7,7 +7,7 @@ ghost use Rattle.lk_port.specs.Asking.{domain_in};
 ghost use Rattle.lk_port.specs.Opened.{mode_of, AreOpened, AreSpins, ArePortsOf, IsPlanFor, Suits};
 ghost use Rattle.lk_port.specs.Shares.{IsFit, domain_of};
 
-use crate::last::Last;
+use crate::last::NONE;
 use crate::pending::Pending;
 use crate::port::Port;
 use crate::share::Share;
@@ -93,7 +93,7 @@ fn port(alloc: Global, share: &Share, cpu: Cpu) -> Result<Port, Fault>
     Ok(Port {
         share,
         pending: Pending::Free,
-        last: Last::Other,
+        last: NONE,
         cpu,
         notes,
     })

@@ -5,7 +5,6 @@ ghost use Rattle.lk_port.specs.declared.answer.Answer.TheVariants.{Done, Halts, 
 ghost use Rattle.lk_port.specs.declared.pending.Pending.TheVariants.{Free, Spins, Reads, Writes};
 
 use crate::answer::Answer;
-use crate::last::Last;
 use crate::pending::Pending;
 use crate::port::Port;
 use lk_run::{ReadWaiter, Waiter, WriteWaiter};
@@ -38,11 +37,10 @@ impl Port {
         ensures has { result ≡ true → LocksNow waiter self.old self.new }
     {
         self.runs();
-        self.last = Last::Other;
         match lk_run::poll(&mut self.cpu, self.share.domain(), waiter) {
             None => {
                 self.pending = Pending::Free;
-                self.last = Last::Took(waiter.lock);
+                self.last = waiter.lock.index;
                 true
             }
             Some(waiter) => {
@@ -59,7 +57,6 @@ impl Port {
         ensures has { result ≡ true → ReadsNow waiter self.old self.new }
     {
         self.runs();
-        self.last = Last::Other;
         match lk_run::poll_read(&mut self.cpu, self.share.domain(), waiter) {
             None => {
                 self.pending = Pending::Free;
@@ -80,7 +77,6 @@ impl Port {
         ensures has { result ≡ true → WritesNow waiter self.old self.new }
     {
         self.runs();
-        self.last = Last::Other;
         match lk_run::poll_write(&mut self.cpu, self.share.domain(), waiter) {
             None => {
                 self.pending = Pending::Free;

@@ -4,7 +4,6 @@ ghost use Rattle.lk_domain.specs.Seats as seats;
 ghost use Rattle.lk_port.specs.Shares.{IsOf, domain_of, may_halt};
 ghost use Rattle.lk_port.specs.Standing.{IsLast, Stands, StandsRunning};
 
-use crate::last::Last;
 use crate::pending::Pending;
 use crate::share::Share;
 use lk_domain::Cpu;
@@ -17,13 +16,14 @@ pub struct Port {
     // These two stand before the processor, at whose end a line of the cache is unused: ports may lie side
     // by side, and each call stores here, or each poll.
     pub(crate) pending: Pending,
-    pub(crate) last: Last,
+    // the spinlock of the last call, where the next one may be for it and the family's waiters run
+    pub(crate) last: u32,
     pub(crate) cpu: Cpu,
     // of each lock that it holds, whether it holds it as a writer; and of each lock whether it holds it,
     // where its family halts, since then its processor notes nothing
     pub(crate) notes: List<bool>,
     ghost of: { IsOf cpu share },
-    ghost lasts: { IsLast (domain_of share) pending cpu last },
+    ghost lasts: { IsLast share pending last },
     ghost stands: { ∥ Stands share notes.items pending cpu ∥₁ },
 }
 

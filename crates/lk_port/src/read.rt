@@ -9,7 +9,7 @@ ghost use Rattle.lk_port.specs.Ports.{Enters, EntersAtOnce, Leaves, MissesEntry}
 ghost use Rattle.lk_port.specs.declared.answer.Answer.TheVariants.{Done, Busy, Waits, WrongManner};
 
 use crate::answer::Answer;
-use crate::last::Last;
+use crate::last::NONE;
 use crate::pending::Pending;
 use crate::port::Port;
 use lk_domain::LockId;
@@ -45,7 +45,6 @@ impl Port {
         ensures missed { result ≡ false → MissesEntry TryRead lock.index self.old self.new }
     {
         self.runs();
-        self.last = Last::Other;
         let has = lk_run::try_read(&mut self.cpu, self.share.domain(), lock);
         if has {
             *self.notes.get_mut(lock.index as usize) = false;
@@ -80,7 +79,7 @@ impl Port {
         ensures entered { result ≡ true → Enters Read Reads lock.index self.old self.new }
     {
         self.runs();
-        self.last = Last::Other;
+        self.last = NONE;
         match lk_run::begin_read(&mut self.cpu, self.share.domain(), lock) {
             None => {
                 *self.notes.get_mut(lock.index as usize) = false;
@@ -121,7 +120,6 @@ impl Port {
         ensures left { Leaves Z1 lock.index self.old self.new }
     {
         self.runs();
-        self.last = Last::Other;
         lk_run::read_unlock(&mut self.cpu, self.share.domain(), lock);
     }
 }

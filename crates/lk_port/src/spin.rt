@@ -1,5 +1,5 @@
 // The calls on a spinlock: what they answer in each family, and what they do where its waiters run.
-ghost use Rattle.std.specs.Prelude.{◌≡◌, ◌≢◌, ◌<◌, None, Some, true, false};
+ghost use Rattle.std.specs.Prelude.{◌≡◌, ◌≢◌, ◌<◌, IfSome, None, Some, true, false};
 ghost use Rattle.lk_names.specs.declared.holder.Manner.TheVariants.{Spins};
 ghost use Rattle.lk_names.specs.declared.names.Kind.TheVariants.{Spin};
 ghost use Rattle.lk_rows.specs.declared.setup.Verb.TheVariants.{Lock, Try};
@@ -15,7 +15,7 @@ ghost use Rattle.lk_port.specs.Shares.{domain_of, may_halt};
 ghost use Rattle.lk_port.specs.declared.answer.Answer.TheVariants.{Again, Busy, Done, Halts, Waits};
 
 use crate::answer::{Answer, Asked, Freed};
-use crate::last::Last;
+use crate::last::NONE;
 use crate::pending::Pending;
 use crate::port::Port;
 use crate::share::Share;
@@ -60,10 +60,9 @@ impl Port {
         ensures missed { result ≡ false → HasMissed Try lock.index self.old self.new }
     {
         self.runs();
-        self.last = Last::Other;
         let has = lk_run::try_lock(&mut self.cpu, self.share.domain(), lock);
         if has {
-            self.last = Last::Took(lock);
+            self.last = lock.index;
         }
         has
     }
@@ -83,6 +82,7 @@ impl Port {
         match self.asks(lock, false) {
             Asked::Refused(answer) => answer,
             Asked::Runs => {
+                self.last = lock.index;
                 if self.begins(lock) {
                     Answer::Done
                 } else {
@@ -93,7 +93,26 @@ impl Port {
         }
     }
 
+    /// Does as `begin` does where the last call tells that it may. `None` says that it does not tell that:
+    /// nothing has changed, and `begin` is to be called.
+    #[inline(always)]
+    pub fn begin_last(&mut self, lock: LockId) -> Option<Answer>
+        ensures domain { self.new.share ≡ self.old.share }
+        ensures taken { result ≡ Some Done → Locks lock.index self.old self.new }
+        ensures waits { IfSome result (λ _. has_halted self.new ≡ false) }
+        ensures same { result ≡ None → self.new ≡ self.old }
+    {
+        if !self.allows(lock, false) {
+            return None;
+        }
+        if self.begins(lock) {
+            return Some(Answer::Done);
+        }
+        Some(Answer::Waits)
+    }
+
     // True: it has it. False: the call waits.
+    #[inline(always)]
     fn begins(&mut self, lock: LockId) -> bool
         requires may { MayCall self.old Spin lock.index false }
         requires runs { may_halt self.old.share ≡ false }
@@ -102,12 +121,9 @@ impl Port {
     {
         self.runs();
         match lk_run::arrive(&mut self.cpu, self.share.domain(), lock) {
-            None => {
-                self.last = Last::Took(lock);
-                true
-            }
+            None => true,
             Some(arrival) => {
-                self.last = Last::Other;
+                self.last = NONE;
                 settles(&mut self.cpu, &self.share, lock, arrival, &mut self.pending)
             }
         }
@@ -129,6 +145,7 @@ impl Port {
         let (answer, kicked) = match self.asks(lock, true) {
             Asked::Refused(answer) => (answer, None),
             Asked::Runs => {
+                self.last = lock.index;
                 self.frees(lock);
                 (Answer::Done, None)
             }
@@ -141,6 +158,22 @@ impl Port {
         Freed { answer, kicked }
     }
 
+    /// Does as `unlock` does where two tests tell that it may. False says that they did not: then nothing
+    /// has changed, and `unlock` is to be called.
+    #[inline(always)]
+    pub fn unlock_last(&mut self, lock: LockId) -> bool
+        ensures domain { self.new.share ≡ self.old.share }
+        ensures freed { result ≡ true → Frees lock.index self.old self.new }
+        ensures same { result ≡ false → self.new ≡ self.old }
+    {
+        if !self.allows(lock, true) {
+            return false;
+        }
+        self.frees(lock);
+        true
+    }
+
+    #[inline(always)]
     fn frees(&mut self, lock: LockId)
         requires may { MayCall self.old Spin lock.index true }
         requires runs { may_halt self.old.share ≡ false }
@@ -149,7 +182,6 @@ impl Port {
     {
         self.runs();
         lk_run::unlock(&mut self.cpu, self.share.domain(), lock);
-        self.last = Last::Freed(lock);
     }
 }
 

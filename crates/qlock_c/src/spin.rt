@@ -1,6 +1,7 @@
 // The calls on a spinlock, and that which goes on with a call of any kind.
-ghost use Rattle.std.specs.Prelude.{◌≡◌, ◌≢◌};
+ghost use Rattle.std.specs.Prelude.{◌≡◌, ◌≢◌, true};
 ghost use Rattle.lk_port.specs.Ports.{Ends, Frees, Locks, Tries};
+ghost use Rattle.lk_port.specs.Shares.{may_halt};
 ghost use Rattle.qlock_c.specs.Crossing.{Crosses};
 
 use crate::codes::{CLOSED, code, freed_code};
@@ -31,10 +32,19 @@ pub extern "C" fn qlock_begin(cpu: &mut Processor, lock: u32) -> u32
     begins(cpu.handle.port_mut(), lock)
 }
 
-// What is left of it with the port, which is a parameter here. A call of the family whose waiters halt is
-// made by another function: one that comes back to this one would make every call save registers.
-#[inline(never)]
+// What is left of it with the port. A call that makes more tests is made by another function, in whose place
+// this one saves no register.
 fn begins(port: &mut Port, lock: u32) -> u32
+    ensures { result ≡ 0 → Locks lock port.old port.new }
+{
+    match port.begin_last(LockId { index: lock }) {
+        Some(answer) => code(answer),
+        None => begins_anew(port, lock),
+    }
+}
+
+#[inline(never)]
+fn begins_anew(port: &mut Port, lock: u32) -> u32
     ensures { result ≡ 0 → Locks lock port.old port.new }
 {
     if port.may_halt() {
@@ -45,8 +55,10 @@ fn begins(port: &mut Port, lock: u32) -> u32
 
 #[inline(never)]
 fn begins_halting(port: &mut Port, lock: u32) -> u32
+    requires { may_halt port.old.share ≡ true }
     ensures { result ≡ 0 → Locks lock port.old port.new }
 {
+    prove!(port.may_halt());
     code(port.begin(LockId { index: lock }))
 }
 
@@ -61,10 +73,18 @@ pub extern "C" fn qlock_unlock(cpu: &mut Processor, lock: u32) -> u32
     frees(cpu.handle.port_mut(), lock)
 }
 
-// What is left of it with the port. A release that may kick somebody is made by another function, which
-// has the room for whom: it would be cleared at the head of this one.
-#[inline(never)]
+// What is left of it with the port, as in `begins`.
 fn frees(port: &mut Port, lock: u32) -> u32
+    ensures { result ≡ 0 → Frees lock port.old port.new }
+{
+    if port.unlock_last(LockId { index: lock }) {
+        return 0;
+    }
+    frees_anew(port, lock)
+}
+
+#[inline(never)]
+fn frees_anew(port: &mut Port, lock: u32) -> u32
     ensures { result ≡ 0 → Frees lock port.old port.new }
 {
     if port.may_halt() {
@@ -75,8 +95,10 @@ fn frees(port: &mut Port, lock: u32) -> u32
 
 #[inline(never)]
 fn frees_halting(port: &mut Port, lock: u32) -> u32
+    requires { may_halt port.old.share ≡ true }
     ensures { result ≡ 0 → Frees lock port.old port.new }
 {
+    prove!(port.may_halt());
     code(port.unlock(LockId { index: lock }).answer)
 }
 

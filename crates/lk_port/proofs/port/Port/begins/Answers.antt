@@ -23,7 +23,7 @@ invariant_of-self c =
     subst (λ (e : Domain). Holds e Lock l manner.Spins s new None) c.domain.ensures (c.arrive.ensures.holds c.in-None.is false) in
     record {
       of = still_in me.share me.cpu new c.arrive.ensures.rest.same me.of;
-      lasts = port.has_taken d new c.args.lock may.free may.lock may.kind has.taken.holds;
+      lasts = me.lasts;
       stands = ∣ port.stands me.share me.notes.items me.pending new c.runs.ensures.runs may.free (port.held d Lock l s new None me.notes.items idle has may.kind) ∣₁;
     }
 

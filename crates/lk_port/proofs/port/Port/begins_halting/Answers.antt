@@ -4,7 +4,7 @@ use Rattle.lk_pvdomain.specs.PvCalls.{own_node}
 use Rattle.lk_pvdomain.specs.PvPaths.{first_of}
 use Rattle.lk_pvdomain.specs.PvTurns.{waiter_in}
 use Rattle.lk_port.proofs.HaltingPorts as port
-use Rattle.lk_port.proofs.Ports.{other}
+use Rattle.lk_port.proofs.Ports.{none}
 use Rattle.lk_port.proofs.Shares.{halts_by, is_of, low_in, still_in}
 use Rattle.lk_port.proofs.port.Port.begins_halting.Goals as goal
 
@@ -43,7 +43,7 @@ invariant_of-self c =
     let has = c.pv_begin.ensures.taken c.in-Has.is in
     record {
       of = still_in me.share me.cpu new c.pv_begin.ensures.same me.of;
-      lasts = port.has_taken me.share d new c.args.lock is may.free (low_in me.share d is may.lock) has.took.holds;
+      lasts = me.lasts;
       stands = ∣ port.stands me.share d (set me.notes.items l true) me.pending new is may.free
           (port.taken d Lock l (own_node me.cpu) (first_of Lock l me.cpu.seat) new me.notes.items r.1 (low_in me.share d is may.lock) has.took has.rests) ∣₁;
     }
@@ -60,7 +60,7 @@ invariant_of-self-in-Waits c =
     let new = c.pv_begin.new.cpu in
     record {
       of = still_in me.share me.cpu new c.pv_begin.ensures.same me.of;
-      lasts = other;
+      lasts = none c.requires.halts me.lasts;
       stands = ∣ halts_by _ _ me.share d is (first_of Lock l me.cpu.seat, r.1, c.pv_begin.ensures.waits w (ap waiter_in c.in-Waits.is)) ∣₁;
     }
 
@@ -76,6 +76,6 @@ invariant_of-self-in-Halts c =
     let new = c.pv_begin.new.cpu in
     record {
       of = still_in me.share me.cpu new c.pv_begin.ensures.same me.of;
-      lasts = other;
+      lasts = none c.requires.halts me.lasts;
       stands = ∣ halts_by _ _ me.share d is (first_of Lock l me.cpu.seat, r.1, c.pv_begin.ensures.waits w (ap waiter_in c.in-Halts.is)) ∣₁;
     }

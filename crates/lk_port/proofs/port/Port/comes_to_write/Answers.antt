@@ -29,7 +29,7 @@ invariant_of-self c =
     subst (λ (e : Domain). CameIn e Write w.lock.index manner.Writes was.0 c.poll_write.new.cpu None) same (c.poll_write.ensures.entered c.in-None.is was.0 waits) in
     record {
       of = still_in me.share me.cpu c.poll_write.new.cpu c.poll_write.ensures.rest.same me.of;
-      lasts = port.other;
+      lasts = port.waited (ap port.is_free c.requires.waits) me.lasts;
       stands = ∣ runs_by _ _ me.share c.runs.ensures.runs (port.came d Write w.lock.index true was.0 c.poll_write.new.cpu None me.notes.items was.1 has was.3.low was.2) ∣₁;
     }
 
@@ -46,7 +46,7 @@ invariant_of-self-in-Some c =
     subst (λ (e : Domain). Waits e v was.0 c.poll_write.new.cpu) same (c.poll_write.ensures.waits v c.in-Some.is was.0 waits) in
     record {
       of = still_in me.share me.cpu c.poll_write.new.cpu c.poll_write.ensures.rest.same me.of;
-      lasts = port.other;
+      lasts = port.waited (ap port.is_free c.requires.waits) me.lasts;
       stands = ∣ runs_by _ _ me.share c.runs.ensures.runs (was.0, was.1, port.same_kind d w.lock v.lock (c.poll_write.ensures.lock v c.in-Some.is) was.2, goes) ∣₁;
     }
 

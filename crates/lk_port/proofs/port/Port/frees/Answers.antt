@@ -23,6 +23,6 @@ invariant_of-self c =
     let new = c.unlock.new.cpu in
     record {
       of = still_in me.share me.cpu new c.unlock.ensures.rest.same me.of;
-      lasts = port.has_freed d me.cpu new c.args.lock may c.unlock.ensures.freed.freed.none;
+      lasts = me.lasts;
       stands = ∣ port.stands me.share me.notes.items me.pending new c.runs.ensures.runs may.free (port.dropped d l me.cpu new me.notes.items idle c.unlock.ensures.freed) ∣₁;
     }

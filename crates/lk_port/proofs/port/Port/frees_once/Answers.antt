@@ -1,7 +1,6 @@
 use Rattle.std.proofs.Common.{false, set, sym, ◌∙◌, arith}
 use Rattle.lk_domain.specs.Seats.{calls_of}
-use Rattle.lk_port.specs.Shares.{domain_of}
-use Rattle.lk_port.proofs.Ports.{has_freed, none_out}
+use Rattle.lk_port.proofs.Ports.{none_out}
 use Rattle.lk_port.proofs.HaltingPorts as port
 use Rattle.lk_port.proofs.Shares.{is_of, low_in, still_in}
 use Rattle.lk_port.proofs.port.Port.frees_once.Goals as goal
@@ -45,7 +44,7 @@ invariant_of-self c =
     let free = c.pv_try_unlock-release.ensures.freed yes in
     record {
       of = still_in me.share me.cpu new c.pv_try_unlock-release.ensures.same me.of;
-      lasts = has_freed (domain_of me.share) me.cpu new c.args.lock may free.none;
+      lasts = me.lasts;
       stands = ∣ port.stands me.share d (set me.notes.items l false) me.pending new is may.free
           (free.rests, port.freed d l me.cpu new me.notes.items r.1 (low_in me.share d is may.lock) free (c.pv_try_unlock-release.ensures.others yes)) ∣₁;
     }

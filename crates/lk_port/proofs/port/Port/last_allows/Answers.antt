@@ -1,16 +1,22 @@
-use Rattle.std.proofs.Common.{true, false}
+use Rattle.std.proofs.Common.{◌≢◌, ℕ, ◌<◌, sym, ap, ◌∙◌, subst}
+use Rattle.lk_domain.specs.Plans.{kind_at, locks_of}
 use Rattle.lk_port.specs.Shares.{domain_of}
-use Rattle.lk_port.proofs.Ports as port
+use Rattle.lk_port.specs.declared.last.TheConstants.{NONE}
+use Rattle.lk_port.proofs.Ports.{same_bool}
 use Rattle.lk_port.proofs.port.Port.last_allows.Goals as goal
 
-pub returns-then-held : goal.returns-then-held
-returns-then-held c same =
+pub returns-clause-may : goal.returns-clause-may
+returns-clause-may c same =
     let me = c.args.self.now in
-    let last = c.in-Took.last in
-    port.allowed (domain_of me.share) me.pending me.cpu last.index c.args.lock.index true c.args.held (me.lasts.took last c.in-Took.is) same c.if-held.true
+    let is = c.if-lock-self.false in
+    let k = (domain_of me.share).plan in
+    let next = me.lasts (subst (λ (n : ℕ). n ≢ NONE) is c.if-lock-eq-NONE.false) in
+    record {
+      free = next.free;
+      lock = subst (λ (n : ℕ). n < locks_of k) (sym is) next.lock;
+      kind = ap (kind_at k) is ∙ next.kind;
+      holds = sym c.holds.ensures ∙ same_bool c.holds.result c.args.held same;
+    }
 
-pub returns-then-not-held : goal.returns-then-not-held
-returns-then-not-held c same =
-    let me = c.args.self.now in
-    let last = c.in-Freed.last in
-    port.allowed (domain_of me.share) me.pending me.cpu last.index c.args.lock.index false c.args.held (me.lasts.freed last c.in-Freed.is) same c.if-not-held.true
+pub returns-clause-runs : goal.returns-clause-runs
+returns-clause-runs c same = (c.args.self.now.lasts (subst (λ (n : ℕ). n ≢ NONE) c.if-lock-self.false c.if-lock-eq-NONE.false)).runs

@@ -29,6 +29,6 @@ invariant_of-self c =
     subst (λ (e : Domain). Holds e Lock w.lock.index manner.Spins was.0 c.poll.new.cpu None) same (c.poll.ensures.holds c.in-None.is was.0 waits) in
     record {
       of = still_in me.share me.cpu c.poll.new.cpu c.poll.ensures.rest.same me.of;
-      lasts = port.has_taken d c.poll.new.cpu w.lock refl was.3.low was.2 has.taken.holds;
+      lasts = λ _. record { runs = c.runs.ensures.runs; free = refl; lock = was.3.low; kind = was.2 };
       stands = ∣ runs_by _ _ me.share c.runs.ensures.runs (port.held d Lock w.lock.index was.0 c.poll.new.cpu None me.notes.items was.1 has was.2) ∣₁;
     }

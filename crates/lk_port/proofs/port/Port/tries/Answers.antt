@@ -21,7 +21,7 @@ invariant_of-self c =
     subst (λ (e : Domain). Gains e Try l Spins (calls_of me.cpu) me.cpu new) c.domain.ensures (c.try_lock-has.ensures.taken c.if-has.true) in
     record {
       of = still_in me.share me.cpu new c.try_lock-has.ensures.rest.same me.of;
-      lasts = port.has_taken d new c.args.lock may.free may.lock may.kind gains.taken.holds;
+      lasts = port.next c.requires.runs may;
       stands = ∣ port.stands me.share me.notes.items me.pending new c.runs.ensures.runs may.free (port.gained d l me.cpu new Try Spins me.notes.items me.notes.items idle gains
           (port.notes_spin d.plan l me.notes.items idle.noted.long may.kind)) ∣₁;
     }

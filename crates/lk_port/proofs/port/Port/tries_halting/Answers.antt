@@ -41,7 +41,7 @@ invariant_of-self c =
     let has = c.pv_try_lock-has.ensures.taken c.if-has.true in
     record {
       of = still_in me.share me.cpu new c.pv_try_lock-has.ensures.same me.of;
-      lasts = port.has_taken me.share d new c.args.lock is may.free (low_in me.share d is may.lock) has.took.holds;
+      lasts = me.lasts;
       stands = ∣ port.stands me.share d (set me.notes.items l true) me.pending new is may.free
           (port.taken d Try l (own_node me.cpu) (first_of Try l me.cpu.seat) new me.notes.items r.1 (low_in me.share d is may.lock) has.took has.rests) ∣₁;
     }

@@ -1,9 +1,9 @@
-use Rattle.std.proofs.Common.{refl, ap, arith}
+use Rattle.std.proofs.Common.{ap, arith}
 use Rattle.lk_rows.specs.declared.setup.Verb.TheVariants.{Lock}
 use Rattle.lk_pvdomain.specs.PvCalls.{own_node}
 use Rattle.lk_pvdomain.specs.PvTurns.{waiter_in}
 use Rattle.lk_port.proofs.HaltingPorts as port
-use Rattle.lk_port.proofs.Ports.{other}
+use Rattle.lk_port.proofs.Ports.{is_free, waited}
 use Rattle.lk_port.proofs.Shares.{halts_by, halts_waiting, is_of, still_in}
 use Rattle.lk_port.proofs.port.Port.turns.Goals as goal
 
@@ -37,7 +37,7 @@ invariant_of-self c =
     let has = c.pv_poll.ensures.taken c.in-Has.is was.0 was.2 in
     record {
       of = still_in me.share me.cpu new c.pv_poll.ensures.same me.of;
-      lasts = port.has_taken me.share d new w.lock is refl was.2.low has.took.holds;
+      lasts = waited (ap is_free c.requires.waits) me.lasts;
       stands = ∣ halts_by _ _ me.share d is (port.taken d Lock w.lock.index (own_node new) was.0 new me.notes.items was.1 was.2.low has.took has.rests) ∣₁;
     }
 
@@ -51,7 +51,7 @@ invariant_of-self-in-Waits c =
     let new = c.pv_poll.new.cpu in
     record {
       of = still_in me.share me.cpu new c.pv_poll.ensures.same me.of;
-      lasts = other;
+      lasts = waited (ap is_free c.requires.waits) me.lasts;
       stands = ∣ halts_by _ _ me.share d is (was.0, was.1, c.pv_poll.ensures.waits c.in-Waits.waiter (ap waiter_in c.in-Waits.is) was.0 was.2) ∣₁;
     }
 
@@ -65,6 +65,6 @@ invariant_of-self-in-Halts c =
     let new = c.pv_poll.new.cpu in
     record {
       of = still_in me.share me.cpu new c.pv_poll.ensures.same me.of;
-      lasts = other;
+      lasts = waited (ap is_free c.requires.waits) me.lasts;
       stands = ∣ halts_by _ _ me.share d is (was.0, was.1, c.pv_poll.ensures.waits c.in-Halts.waiter (ap waiter_in c.in-Halts.is) was.0 was.2) ∣₁;
     }
