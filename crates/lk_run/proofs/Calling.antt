@@ -1,38 +1,23 @@
 -- What a row does to a call that queues, and rows that follow each other.
-use Rattle.std.proofs.Common.{◌≡◌, ℕ, Option, Some, None, Bool, true, false, refl, sym, ap, ◌∙◌, IfSome, subst}
+use Rattle.std.proofs.Common.{◌≡◌, ℕ, Option, Some, None, Bool, true, false, refl, sym, ap, ◌∙◌}
+use Rattle.std.proofs.Common.{IfSome, subst}
 use Rattle.std.specs.Option.{ForSome}
-use Rattle.lk_rows.specs.declared.parts.Frame.{Frame}
-use Rattle.lk_rows.specs.declared.parts.Pc.{Pc}
-use Rattle.lk_law.specs.Families.{is_rw_row}
-use Rattle.lk_law.specs.Leads.{Met, Word, Number}
-use Rattle.lk_domain.specs.NodePlays.{AtRow, AtEntry, counting, readies}
-use Rattle.lk_domain.specs.Words.{IsNode}
-use Rattle.lk_domain.specs.Calls.{slows}
-use Rattle.lk_domain.specs.declared.view.View.{View}
-use Rattle.lk_word.specs.declared.spin_word.NodeName.{NodeName}
-use Rattle.lk_rows.specs.declared.parts.Pc.TheVariants.{G1, G2}
-use Rattle.lk_run.specs.Frames.{Owns}
-use Rattle.lk_run.proofs.Rows as rows
-use Rattle.lk_domain.specs.Paths.{Any}
-use Rattle.lk_domain.specs.Plays.{ActsIn, MadeBy, rowed}
-use Rattle.lk_domain.specs.Rows as row
-use Rattle.lk_domain.specs.Rows.{is_watch, is_swap, is_patient}
-use Rattle.lk_domain.specs.Seats.{IsOf, KeepsRest, calls_of, view_of}
-use Rattle.lk_domain.specs.declared.cpu.Cpu.{Cpu}
-use Rattle.lk_domain.specs.Plans.{layout_in}
-use Rattle.lk_domain.specs.Standing.{Outside}
-use Rattle.lk_domain.proofs.Standing.{stays}
-use Rattle.lk_word.specs.declared.spin_word.Fields.{Fields}
+use Rattle.lk_run.proofs.Names.{Fields, NodeName, Frame, Pc, G1, after_fast, is_rw_row, Met, Number}
+use Rattle.lk_run.proofs.Names.{Word, counting, readies, Any, ActsIn, MadeBy, rowed, is_swap}
+use Rattle.lk_run.proofs.Names.{is_watch, IsOf, KeepsRest, calls_of, view_of, Outside, IsNode, Cpu}
+use Rattle.lk_run.proofs.Names.{View, Owns, StandsAs, At, Steps, Rest}
 use Rattle.lk_word.specs.SpinWord.{packed, IsPackable}
-use Rattle.lk_rows.specs.rows.Spin.{after_fast}
-use Rattle.lk_run.specs.Phases.{StandsAs}
-use Rattle.lk_run.specs.Words.{Waits, At, Steps, Looks, LooksOn, Takes, IsNext}
-use Rattle.lk_run.specs.Resting.{Came, Turns, Turned}
-use Rattle.lk_run.specs.declared.call.Call.{Call}
-use Rattle.lk_run.specs.declared.rest.Rest.{Rest}
+use Rattle.lk_rows.specs.declared.parts.Pc.TheVariants.{G2}
+use Rattle.lk_domain.proofs.Standing.{stays}
+use Rattle.lk_domain.specs.{Calls.slows, NodePlays.{AtRow, AtEntry}, Plans.layout_in}
+use Rattle.lk_domain.specs.Rows.{is_patient}
 use Rattle.lk_run.proofs.Steps.{still_of, rest_both}
-use Rattle.lk_run.proofs.Stepped as way
 use Rattle.lk_run.proofs.Ways.{Leads, Ends, sees, ready_row, queues_patient, queues_inside, then_is}
+use Rattle.lk_run.specs.Resting.{Came, Turns, Turned}
+use Rattle.lk_run.specs.{Words.{Waits, Looks, LooksOn, Takes, IsNext}, declared.call.Call.Call}
+use Rattle.lk_run.proofs.Rows as rows
+use Rattle.lk_domain.specs.Rows as row
+use Rattle.lk_run.proofs.Stepped as way
 
 -- what is behind a value, if there is one
 

@@ -1,34 +1,25 @@
 -- Where the rows of a head that chooses its successor lead, by what they meet.
-use Rattle.std.proofs.Common.{◌≡◌, ℕ, IfSome, Option, Some, None, Bool, true, false, refl, sym, ap, ◌∙◌, subst, [], ◌∷◌}
-use Rattle.std.specs.Prelude.{if◌then◌else◌, ◌&&◌, not}
-use Rattle.lk_names.specs.declared.names.Mode.{Mode}
-use Rattle.lk_word.specs.declared.spin_word.NodeName.{NodeName}
-use Rattle.lk_word.specs.declared.spin_word.Fields.{Fields}
-use Rattle.lk_rows.specs.declared.parts.Flag.{Flag}
-use Rattle.lk_rows.specs.declared.parts.Frame.{Frame}
-use Rattle.lk_rows.specs.declared.parts.Pc.{Pc}
-use Rattle.lk_rows.specs.declared.parts.Pc.TheVariants.{C1, C2, C3, C4, C5, C6, C7, C8, C9, C10}
-use Rattle.lk_rows.specs.declared.parts.Why.{Why}
-use Rattle.lk_rows.specs.declared.parts.Why.TheVariants as why
-use Rattle.lk_rows.specs.declared.search.First.{First}
-use Rattle.lk_rows.specs.declared.search.First.TheVariants as first
-use Rattle.lk_rows.specs.declared.search.More.{More}
-use Rattle.lk_rows.specs.declared.search.More.TheVariants as more
-use Rattle.lk_rows.specs.Moves.{is_node, node_of}
-use Rattle.lk_rows.specs.Row.{learns_all, T}
-use Rattle.lk_rows.specs.rows.Cna.{Sight, may_stay, search_first, search_on, after_tail, is_held, is_last, flag_for}
-use Rattle.lk_rows.specs.Searching.{first_by, first_effect, over_by, more_by, more_effect, met_by}
-use Rattle.lk_rows.specs.TopRow.{target}
+use Rattle.std.proofs.Common.{◌≡◌, ℕ, IfSome, Option, Some, None, Bool, true, false, refl, sym, ap}
+use Rattle.std.proofs.Common.{◌∙◌, subst, [], ◌∷◌, if◌then◌else◌, ◌&&◌, not}
+use Rattle.lk_run.proofs.Names.{Fields, NodeName, Mode, is_node, first_by, more_by, target, Flag}
+use Rattle.lk_run.proofs.Names.{Frame, Pc, C1, C2, C3, C4, C5, C7, C8, C9, Flagged, Linked, Met}
+use Rattle.lk_run.proofs.Names.{Named, Number, Word, Outlook, Unchanged, sight_by, IsFlagNode}
+use Rattle.lk_run.proofs.Names.{IsNode, Plan, IsFirstNode, IsMoreNode, Flushes, Fronts, Parts}
+use Rattle.lk_run.proofs.Names.{Precedes, Promotes, Skips}
 use Rattle.lk_rows.proofs.Searching.{search_first-by, search_on-by}
-use Rattle.lk_law.specs.Leads.{Met, Word, Number, Flagged, Named, Linked, Course, course_of}
-use Rattle.lk_law.specs.Steps.{led}
-use Rattle.lk_domain.specs.Calls.{course, grip_of, Unchanged, Outlook, sight_by}
-use Rattle.lk_domain.specs.NodePlays.{IsFlagNode}
-use Rattle.lk_domain.specs.Words.{IsNode}
-use Rattle.lk_domain.specs.declared.plan.Plan.{Plan}
-use Rattle.lk_run.specs.Choices.{IsFirstNode, IsMoreNode}
-use Rattle.lk_run.specs.Frames.{Fronts, Precedes, Skips, Appends, Ties, Parts, Flushes, Returns, Promotes, Promoting}
+use Rattle.lk_rows.specs.{Moves.node_of, Row.{learns_all, T}}
+use Rattle.lk_rows.specs.Searching.{first_effect, over_by, more_effect, met_by}
+use Rattle.lk_rows.specs.{declared.parts.Pc.TheVariants.{C6, C10}, declared.parts.Why.Why}
+use Rattle.lk_rows.specs.{declared.search.First.First, declared.search.More.More}
+use Rattle.lk_rows.specs.rows.Cna.{Sight, may_stay, search_first, search_on, after_tail, is_held}
+use Rattle.lk_rows.specs.rows.Cna.{is_last, flag_for}
+use Rattle.lk_law.specs.{Leads.{Course, course_of}, Steps.led}
+use Rattle.lk_domain.specs.Calls.{course, grip_of}
 use Rattle.lk_run.proofs.Ways.{Leads, Ends}
+use Rattle.lk_run.specs.Frames.{Appends, Ties, Returns, Promoting}
+use Rattle.lk_rows.specs.declared.parts.Why.TheVariants as why
+use Rattle.lk_rows.specs.declared.search.First.TheVariants as first
+use Rattle.lk_rows.specs.declared.search.More.TheVariants as more
 
 -- the course by what is seen behind the head
 abbrev told_first : First → Course

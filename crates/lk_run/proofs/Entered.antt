@@ -1,31 +1,18 @@
 -- What a step of a processor does to a call of a reader or a writer.
-use Rattle.std.proofs.Common.{◌≡◌, ◌≤◌, ℕ, ◌+◌, ◌-◌, [], ◌∷◌, ◌++◌, length, Option, Some, None, true, eqb, refl, sym, ap, ◌∙◌, subst, arith, length-append}
-use Rattle.std.proofs.Common.{◌||◌}
-use Rattle.lk_names.specs.declared.holder.Manner.{Manner}
-use Rattle.lk_names.specs.declared.names.LockName.{LockName}
-use Rattle.lk_names.specs.declared.names.Mode.{Mode}
-use Rattle.lk_rows.specs.Moves.{wait_name}
-use Rattle.lk_rows.specs.declared.parts.Frame.{Frame}
-use Rattle.lk_rows.specs.declared.parts.Pc.{Pc}
-use Rattle.lk_rows.specs.declared.parts.Pc.TheVariants.{F1, U1}
-use Rattle.lk_rows.specs.declared.setup.Verb.{Verb}
-use Rattle.lk_law.specs.Leads.{Met}
-use Rattle.lk_law.specs.Sound.{after_wait, takes_wait}
-use Rattle.lk_domain.specs.Calls.{terms_of, sight_of, read_at, mark, Calls, lock_name, Unchanged, Takes, Frees}
-use Rattle.lk_domain.specs.Ledgers.{turned}
-use Rattle.lk_domain.specs.Paths.{HasLooked, Any, Passes, is_busy}
-use Rattle.lk_domain.specs.Plays.{rowed}
-use Rattle.lk_domain.specs.Seats.{IsOf, KeepsRest, calls_of, ledger_of, view_of}
-use Rattle.lk_domain.specs.Standing.{Outside, Inside, Entered, IsOn}
-use Rattle.lk_domain.specs.declared.cpu.Cpu.{Cpu}
-use Rattle.lk_domain.specs.declared.domain.Domain.{Domain}
+use Rattle.std.proofs.Common.{◌≡◌, ◌≤◌, ℕ, ◌+◌, ◌-◌, [], ◌∷◌, ◌++◌, length, Option, Some, None}
+use Rattle.std.proofs.Common.{true, eqb, refl, sym, ap, ◌∙◌, subst, arith, length-append, ◌||◌}
+use Rattle.lk_run.proofs.Names.{Manner, LockName, Mode, wait_name, Frame, Pc, F1, U1, Verb, Met}
+use Rattle.lk_run.proofs.Names.{after_wait, takes_wait, Calls, Frees, Takes, Unchanged, lock_name}
+use Rattle.lk_run.proofs.Names.{mark, sight_of, terms_of, turned, Any, HasLooked, Passes, is_busy}
+use Rattle.lk_run.proofs.Names.{rowed, IsOf, KeepsRest, calls_of, ledger_of, view_of, Inside, IsOn}
+use Rattle.lk_run.proofs.Names.{Outside, Cpu, Domain, CameIn, HasPolled, Passed, Start, Waits}
+use Rattle.lk_run.proofs.Names.{newest, waiter, Acquires, HasStayed, NeverFalls, RisesBy}
 use Rattle.lk_domain.proofs.Standing.{count_after, path_to}
-use Rattle.lk_run.specs.Polls.{NeverFalls, RisesBy, HasStayed, Acquires}
-use Rattle.lk_run.specs.Phases.{Start, newest, Waits, HasPolled, CameIn, HasPassed, Passed, waiter}
-use Rattle.lk_run.proofs.RwRows.{TakesBy, SetsOut, FreesIt}
-use Rattle.lk_run.proofs.Standing as path
-use Rattle.lk_run.proofs.Polls.{stays_before, recount}
+use Rattle.lk_domain.specs.{Calls.read_at, Standing.Entered}
+use Rattle.lk_run.proofs.{Polls.{stays_before, recount}, RwRows.{TakesBy, SetsOut, FreesIt}}
 use Rattle.lk_run.proofs.Steps.{looked}
+use Rattle.lk_run.specs.Phases.{HasPassed}
+use Rattle.lk_run.proofs.Standing as path
 use Rattle.lk_run.proofs.Ways as way
 
 -- the lock that a frame acts on is the one of its operation

@@ -1,17 +1,10 @@
 -- The row F1 of a call of `lock`, by what it met.
 use Rattle.std.proofs.Common.{◌≡◌, ◌≢◌, ℕ, Bool, Option, false, refl, sym, subst}
-use Rattle.lk_names.specs.declared.holder.Manner.TheVariants.{Spins}
-use Rattle.lk_names.specs.declared.names.LockName.{LockName}
-use Rattle.lk_law.specs.Leads.{Word}
-use Rattle.lk_rows.specs.declared.setup.Verb.TheVariants.{Lock}
-use Rattle.lk_rows.specs.rows.Spin.{after_fast}
-use Rattle.lk_domain.specs.Calls.{waits_in}
-use Rattle.lk_domain.specs.Paths.{Any}
-use Rattle.lk_domain.specs.Seats.{IsOf, KeepsRest, Made, calls_of}
-use Rattle.lk_domain.specs.declared.cpu.Cpu.{Cpu}
-use Rattle.lk_domain.specs.declared.domain.Domain.{Domain}
-use Rattle.lk_run.specs.Phases.{Arrives, Holds, Waits, starting}
+use Rattle.lk_run.proofs.Names.{Spins, LockName, Lock, after_fast, Word, waits_in, Any, IsOf}
+use Rattle.lk_run.proofs.Names.{KeepsRest, calls_of, Cpu, Domain, Holds, Waits, starting}
+use Rattle.lk_domain.specs.Seats.{Made}
 use Rattle.lk_run.proofs.Places.{free_by, held_by, met_by, not_fast}
+use Rattle.lk_run.specs.Phases.{Arrives}
 use Rattle.lk_run.proofs.Rows as row
 use Rattle.lk_run.proofs.Stepped as way
 

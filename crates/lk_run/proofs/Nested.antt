@@ -1,18 +1,13 @@
 -- What a handler leaves that takes a lock and frees it, as `Irq::poll` asks.
-use Rattle.std.proofs.Common.{◌≡◌, ◌≢◌, ℕ, List, [], ◌∷◌, length, Bool, true, false, eqb, eq-eqb, ne_eqb, inl, inr, refl, sym, ap, ◌∙◌, subst, arith}
+use Rattle.std.proofs.Common.{◌≡◌, ◌≢◌, ℕ, List, [], ◌∷◌, length, Bool, true, false, eqb, eq-eqb}
+use Rattle.std.proofs.Common.{ne_eqb, inl, inr, refl, sym, ap, ◌∙◌, subst, arith, if◌then◌else◌}
+use Rattle.std.proofs.Common.{◌&&◌, ◌||◌}
 use Rattle.std.proofs.lemmas.Bool.{cases_Bool}
-use Rattle.std.specs.Prelude.{if◌then◌else◌, ◌&&◌, ◌||◌}
-use Rattle.lk_names.specs.Names.{same_lock}
-use Rattle.lk_names.specs.declared.holder.Manner.{Manner}
-use Rattle.lk_rows.specs.declared.setup.Verb.{Verb}
-use Rattle.lk_law.proofs.common.Puts.{if-true, if-false}
+use Rattle.lk_run.proofs.Names.{same_lock, Manner, Verb, if-false, if-true, Calls, Mark, Terms}
+use Rattle.lk_run.proofs.Names.{holds_in, lock_name, Ledger, AreKept, HasLooked, HasTaken, Passes}
+use Rattle.lk_run.proofs.Names.{is_busy, ledger_of, Cpu}
 use Rattle.lk_law.proofs.common.Sames.{same_lock-self}
-use Rattle.lk_domain.specs.Calls.{Terms, Mark, Hold, hold, Calls, holds_in, lock_name, moved_to, free_of}
-use Rattle.lk_domain.specs.Ledgers.{Ledger}
-use Rattle.lk_domain.specs.Paths.{HasTaken, HasFreed, HasLooked, AreKept, Passes, is_busy}
-use Rattle.lk_domain.specs.Seats.{ledger_of}
-use Rattle.lk_domain.specs.Waits.{Drops}
-use Rattle.lk_domain.specs.declared.cpu.Cpu.{Cpu}
+use Rattle.lk_domain.specs.{Calls.{Hold, hold, moved_to, free_of}, Paths.HasFreed, Waits.Drops}
 
 -- the locks that are held already are none of the one that is taken and freed
 untouched : (k l : ℕ) (hs : List Hold) → holds_in hs l ≡ false

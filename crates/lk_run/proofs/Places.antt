@@ -1,26 +1,15 @@
 -- Where a row may lead, and what the number of a word says.
-use Rattle.std.proofs.Common.{◌≡◌, ◌≢◌, ◌⊎◌, inl, inr, ℕ, ◌-◌, ◌/◌, ◌%◌, ◌<◌, ◌≤◌, Option, IfSome, arith, Some, None, Bool, true, false, eq-eqb, ne_eqb, refl, sym, ap, subst, ◌∙◌}
-use Rattle.std.specs.Prelude.{if◌then◌else◌, ◌&&◌, not, is_some}
-use Rattle.lk_names.specs.declared.names.Mode.{Mode}
-use Rattle.lk_names.specs.declared.names.Mode.TheVariants.{Virt, Native, Cna, Pv}
-use Rattle.lk_word.specs.declared.spin_word.NodeName.{NodeName}
-use Rattle.lk_word.specs.declared.spin_word.Fields.{Fields}
-use Rattle.lk_word.specs.declared.spin_word.Layout.{Layout}
-use Rattle.lk_word.specs.SpinWord.{packed, IsPackable}
-use Rattle.lk_rows.specs.declared.parts.Flag.{Flag}
-use Rattle.lk_rows.specs.declared.parts.Flag.TheVariants.{Unset, Go, Second}
-use Rattle.lk_rows.specs.declared.parts.Pc.{Pc}
-use Rattle.lk_rows.specs.declared.parts.Pc.TheVariants.{F1, V1, P0, P1, P2, P3, P4, G1, G7, G8, G9}
-use Rattle.lk_rows.specs.declared.setup.Verb.{Verb}
-use Rattle.lk_rows.specs.rows.Spin.{is_free, is_unlocked, after_fast, after_pending, to_queue}
-use Rattle.lk_domain.specs.Plans.{cpus_of, layout_in}
-use Rattle.lk_domain.specs.Seats.{IsOf, Made}
-use Rattle.lk_domain.specs.declared.cpu.Cpu.{Cpu}
-use Rattle.lk_domain.specs.declared.domain.Domain.{Domain}
-use Rattle.lk_domain.specs.NodePlays.{IsFlagNode}
-use Rattle.lk_domain.specs.Words.{IsNode, flag_number, name_number}
-use Rattle.lk_domain.specs.declared.plan.Plan.{Plan}
-use Rattle.lk_domain.specs.declared.plan.TheConstants.{MOST_CPUS}
+use Rattle.std.proofs.Common.{◌≡◌, ◌≢◌, ◌⊎◌, inl, inr, ℕ, ◌-◌, ◌/◌, ◌%◌, ◌<◌, ◌≤◌, Option, IfSome}
+use Rattle.std.proofs.Common.{arith, Some, None, Bool, true, false, eq-eqb, ne_eqb, refl, sym, ap}
+use Rattle.std.proofs.Common.{subst, ◌∙◌, if◌then◌else◌, ◌&&◌, not, is_some}
+use Rattle.lk_run.proofs.Names.{Fields, NodeName, Mode, Cna, Native, Pv, Virt, Flag, Go, Second}
+use Rattle.lk_run.proofs.Names.{Unset, Pc, F1, G1, G7, G8, G9, P0, P1, P2, P3, P4, V1, Verb}
+use Rattle.lk_run.proofs.Names.{after_fast, after_pending, is_unlocked, to_queue, IsFlagNode, IsOf}
+use Rattle.lk_run.proofs.Names.{IsNode, Cpu, Domain, Plan}
+use Rattle.lk_word.specs.{SpinWord.{packed, IsPackable}, declared.spin_word.Layout.Layout}
+use Rattle.lk_rows.specs.rows.Spin.{is_free}
+use Rattle.lk_domain.specs.{Plans.{cpus_of, layout_in}, Seats.Made}
+use Rattle.lk_domain.specs.{Words.{flag_number, name_number}, declared.plan.TheConstants.MOST_CPUS}
 use Rattle.lk_domain.proofs.Ways as seat
 
 -- the word that a step met, by the plan of the domain

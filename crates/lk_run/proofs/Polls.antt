@@ -1,8 +1,9 @@
 -- Polls add up, and a row that leads to another asks for none.
-use Rattle.std.proofs.Common.{◌≡◌, ◌+◌, ℕ, zero, suc, inl, inr, Bool, true, false, List, [], ◌∷◌, ◌++◌, Option, Some, None, refl, arith}
+use Rattle.std.proofs.Common.{◌≡◌, ◌+◌, ℕ, zero, suc, inl, inr, Bool, true, false, List, [], ◌∷◌}
+use Rattle.std.proofs.Common.{◌++◌, Option, Some, None, refl, arith}
 use Rattle.std.proofs.lemmas.Bool.{cases_lt}
-use Rattle.lk_domain.specs.Calls.{Mark, Calls}
-use Rattle.lk_run.specs.Polls.{Rises, NeverFalls, RisesBy, HasStayed, Acquires}
+use Rattle.lk_run.proofs.Names.{Calls, Mark, Acquires, HasStayed, NeverFalls, RisesBy}
+use Rattle.lk_run.specs.Polls.{Rises}
 
 pub falls_none : (a : Option ℕ) → NeverFalls a a
 falls_none None = refl

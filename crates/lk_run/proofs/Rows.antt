@@ -1,27 +1,17 @@
 -- Where the rows of a call of `lock` lead, by what they meet.
-use Rattle.std.proofs.Common.{◌≡◌, ◌≢◌, ℕ, ◌<◌, ◌≤◌, Option, Some, None, Bool, true, false, refl, sym, ◌∙◌, subst}
+use Rattle.std.proofs.Common.{◌≡◌, ◌≢◌, ℕ, ◌<◌, ◌≤◌, Option, Some, None, Bool, true, false, refl}
+use Rattle.std.proofs.Common.{sym, ◌∙◌, subst, if◌then◌else◌, ◌&&◌, not, nat_lt, is_some}
 use Rattle.std.proofs.lemmas.Bool.{lt-ltb, le-ltb}
-use Rattle.std.specs.Prelude.{if◌then◌else◌, ◌&&◌, not, nat_lt, is_some}
-use Rattle.lk_names.specs.declared.names.Mode.{Mode}
-use Rattle.lk_names.specs.declared.names.Mode.TheVariants.{Virt, Native, Cna, Pv}
-use Rattle.lk_word.specs.declared.spin_word.NodeName.{NodeName}
-use Rattle.lk_word.specs.declared.spin_word.Fields.{Fields}
-use Rattle.lk_rows.specs.declared.parts.Flag.{Flag}
-use Rattle.lk_rows.specs.declared.parts.Flag.TheVariants.{Unset, Go, Second}
-use Rattle.lk_rows.specs.declared.parts.Frame.{Frame}
-use Rattle.lk_rows.specs.declared.parts.Pc.TheVariants.{F1, V1, V2, P0, P1, P2, P3, P4, G1, G2, G3, G4, G5}
-use Rattle.lk_rows.specs.declared.parts.Pc.TheVariants.{G6, G7, G8, G9, G10, G11, N1, N2, C1}
-use Rattle.lk_rows.specs.Moves.{is_node, node_of}
-use Rattle.lk_rows.specs.rows.Spin.{is_free, is_unlocked, after_fast, after_pending, to_queue}
-use Rattle.lk_domain.specs.Calls.{Outlook}
-use Rattle.lk_rows.specs.rows.Queue.{own_node}
+use Rattle.lk_run.proofs.Names.{Fields, NodeName, Mode, Cna, Native, Pv, Virt, is_node, Flag, Go}
+use Rattle.lk_run.proofs.Names.{Second, Unset, Frame, C1, F1, G1, G4, G6, G7, G8, G9, G10, G11, N1}
+use Rattle.lk_run.proofs.Names.{P0, P1, P2, P3, P4, V1, after_fast, after_pending, is_unlocked}
+use Rattle.lk_run.proofs.Names.{to_queue, if-false, if-true, moves_aside, node_in, Flagged, Linked}
+use Rattle.lk_run.proofs.Names.{Named, Number, Word, Outlook, Any, Fronts, Owns, Precedes}
+use Rattle.lk_rows.specs.{Moves.node_of, declared.parts.Pc.TheVariants.{V2, G2, G3, G5, N2}}
+use Rattle.lk_rows.specs.{rows.Queue.own_node, rows.Spin.is_free}
 use Rattle.lk_law.specs.Agree.{halts}
-use Rattle.lk_law.specs.Cna.{moves_aside, node_in}
-use Rattle.lk_law.specs.Leads.{Word, Number, Flagged, Named, Linked}
-use Rattle.lk_law.proofs.common.Puts.{if-true, if-false}
-use Rattle.lk_domain.specs.Paths.{Any}
-use Rattle.lk_run.specs.Frames.{Owns, Follows, Precedes, Fronts}
 use Rattle.lk_run.proofs.Ways.{Leads, Ends}
+use Rattle.lk_run.specs.Frames.{Follows}
 
 -- whether the head is alone
 sole_by : (f : Frame) (y : Fields) (own : NodeName) → f.me ≡ Some own → (b : Bool)

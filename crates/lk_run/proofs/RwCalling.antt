@@ -1,29 +1,14 @@
 -- What a row does to a reader or a writer that waits, and rows that follow each other.
 use Rattle.std.proofs.Common.{◌≡◌, ℕ, Option, Some, None, Bool, true}
-use Rattle.lk_names.specs.declared.holder.Manner.{Manner}
-use Rattle.lk_rows.specs.Moves.{wait_name}
-use Rattle.lk_rows.specs.declared.parts.Frame.{Frame}
-use Rattle.lk_rows.specs.declared.parts.Pc.{Pc}
-use Rattle.lk_rows.specs.declared.parts.Pc.TheVariants.{F1, U1}
-use Rattle.lk_rows.specs.declared.setup.Verb.{Verb}
-use Rattle.lk_law.specs.Leads.{Shared}
-use Rattle.lk_law.specs.Sound.{after_wait}
-use Rattle.lk_domain.specs.Calls.{lock_name, waits_in}
-use Rattle.lk_domain.specs.Paths.{Any}
-use Rattle.lk_domain.specs.Plays.{rowed}
-use Rattle.lk_domain.specs.RwPlays.{ActsFor, SharedBy}
-use Rattle.lk_domain.specs.Seats.{KeepsRest, calls_of, view_of}
-use Rattle.lk_domain.specs.Standing.{Outside, Inside}
-use Rattle.lk_domain.specs.declared.cpu.Cpu.{Cpu}
-use Rattle.lk_domain.specs.declared.domain.Domain.{Domain}
-use Rattle.lk_domain.proofs.Turned.{is_taking}
-use Rattle.lk_run.specs.Phases.{Start, StandsAs, CameIn, Passed, Waiter, waiter}
+use Rattle.lk_run.proofs.Names.{Manner, wait_name, Frame, Pc, F1, U1, Verb, Shared, after_wait}
+use Rattle.lk_run.proofs.Names.{is_taking, lock_name, waits_in, Any, rowed, ActsFor, SharedBy}
+use Rattle.lk_run.proofs.Names.{KeepsRest, calls_of, view_of, Inside, Outside, Cpu, Domain, CameIn}
+use Rattle.lk_run.proofs.Names.{Passed, StandsAs, Start, Waiter, waiter}
+use Rattle.lk_run.proofs.{Steps.{still_of, rest_both}, Ways.{Leads, sees}}
 use Rattle.lk_run.specs.Waiters.{Waits, At, Steps, Looks, Gets}
 use Rattle.lk_run.proofs.RwRows as row
 use Rattle.lk_run.proofs.RwSteps as rw
-use Rattle.lk_run.proofs.Steps.{still_of, rest_both}
 use Rattle.lk_run.proofs.Stepped as way
-use Rattle.lk_run.proofs.Ways.{Leads, sees}
 
 -- without the wait lock, and with it
 

@@ -1,23 +1,15 @@
 -- The rows R1 and Wr1 of a call of `read_lock` or `write_lock`, by what they met.
-use Rattle.std.proofs.Common.{◌≡◌, ℕ, [], append-nil, Bool, Option, true, false, eqb, inl, length, refl, sym}
-use Rattle.lk_names.specs.declared.holder.Manner.{Manner}
-use Rattle.lk_names.specs.declared.holder.Manner.TheVariants.{Reads, Writes}
-use Rattle.lk_rows.specs.declared.parts.Pc.TheVariants.{Wr2}
-use Rattle.lk_rows.specs.declared.setup.Verb.{Verb}
-use Rattle.lk_rows.specs.declared.setup.Verb.TheVariants.{Read, Write}
-use Rattle.lk_domain.specs.Calls.{Calls, Takes, Terms, waits_in}
-use Rattle.lk_domain.specs.Paths.{HasTaken}
-use Rattle.lk_domain.specs.RwPlays.{SharedBy}
-use Rattle.lk_domain.specs.RwRows.{lets_in}
-use Rattle.lk_domain.specs.Seats.{IsOf, KeepsRest, calls_of}
-use Rattle.lk_domain.specs.declared.cpu.Cpu.{Cpu}
-use Rattle.lk_domain.specs.declared.domain.Domain.{Domain}
+use Rattle.std.proofs.Common.{◌≡◌, ℕ, [], append-nil, Bool, Option, true, false, eqb, inl, length}
+use Rattle.std.proofs.Common.{refl, sym}
+use Rattle.lk_run.proofs.Names.{Manner, Reads, Writes, Wr2, Verb, Read, Write, Calls, Takes, Terms}
+use Rattle.lk_run.proofs.Names.{waits_in, HasTaken, SharedBy, IsOf, KeepsRest, calls_of, Cpu}
+use Rattle.lk_run.proofs.Names.{Domain, CameIn, biased, starting}
 use Rattle.lk_domain.proofs.Standing.{path_upto}
+use Rattle.lk_domain.specs.RwRows.{lets_in}
+use Rattle.lk_run.proofs.RwPlaces.{empty_by, full_by, is_open_by, is_shut_by}
 use Rattle.lk_run.specs.Entering.{HasEntered}
-use Rattle.lk_run.specs.Phases.{CameIn, biased, starting}
 use Rattle.lk_run.specs.PolledRead as read
 use Rattle.lk_run.specs.PolledWrite as write
-use Rattle.lk_run.proofs.RwPlaces.{empty_by, full_by, is_open_by, is_shut_by}
 use Rattle.lk_run.proofs.RwRows as row
 use Rattle.lk_run.proofs.RwSteps as rw
 

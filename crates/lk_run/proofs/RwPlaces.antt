@@ -1,7 +1,6 @@
 -- What the number of the word of a reader-writer lock says.
-use Rattle.std.proofs.Common.{◌≡◌, ℕ, ◌%◌, Bool, true, false, eqb, sym, ap, ◌∙◌, refl}
-use Rattle.std.specs.Prelude.{not}
-use Rattle.lk_word.specs.declared.rw_word.RwFields.{RwFields}
+use Rattle.std.proofs.Common.{◌≡◌, ℕ, ◌%◌, Bool, true, false, eqb, sym, ap, ◌∙◌, refl, not}
+use Rattle.lk_run.proofs.Names.{RwFields}
 use Rattle.lk_word.specs.RwWord.{packed_rw}
 use Rattle.lk_rows.specs.rows.Rw.{is_empty, is_open, is_cleared}
 use Rattle.lk_domain.proofs.rw.Numbers.{empty_test, cleared_test, writer_test, open_test}

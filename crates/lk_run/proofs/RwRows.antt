@@ -1,23 +1,12 @@
 -- Where the rows of readers and writers lead, by what they meet.
 use Rattle.std.proofs.Common.{◌≡◌, ℕ, Option, Some, None, true, false, refl}
-use Rattle.lk_names.specs.declared.holder.Manner.{Manner}
-use Rattle.lk_names.specs.declared.holder.Manner.TheVariants.{Reads, Writes}
-use Rattle.lk_names.specs.declared.names.Mode.{Mode}
-use Rattle.lk_names.specs.declared.names.Mode.TheVariants.{Virt, Native, Cna, Pv}
-use Rattle.lk_word.specs.declared.rw_word.RwFields.{RwFields}
-use Rattle.lk_word.specs.declared.spin_word.Fields.{Fields}
-use Rattle.lk_rows.specs.Moves.{waiting}
-use Rattle.lk_rows.specs.declared.parts.Frame.{Frame}
-use Rattle.lk_rows.specs.declared.parts.Pc.{Pc}
-use Rattle.lk_rows.specs.declared.parts.Pc.TheVariants.{U1, R1, R2, R3, R4, R5, Wr1, Wr2, Wr3, Wr4}
-use Rattle.lk_rows.specs.declared.parts.Pc.TheVariants.{Wr5, Wr6, Y1, Y2, Y3, Y4, Y5}
-use Rattle.lk_rows.specs.TopRow.{target}
+use Rattle.lk_run.proofs.Names.{RwFields, Fields, Manner, Reads, Writes, Mode, Cna, Native, Pv}
+use Rattle.lk_run.proofs.Names.{Virt, target, Frame, Pc, R1, R2, R4, R5, U1, Wr2, Wr3, Wr4, Wr5, Y2}
+use Rattle.lk_run.proofs.Names.{Y3, Y5, Met, Shared, Word, held_lock, Frees, Outlook, Takes}
+use Rattle.lk_run.proofs.Names.{Unchanged, lock_name, Any, next_frame, row_grip}
+use Rattle.lk_rows.specs.{Moves.waiting, declared.parts.Pc.TheVariants.{R3, Wr1, Wr6, Y1, Y4}}
 use Rattle.lk_rows.specs.rows.Rw.{is_empty, is_open, is_cleared, after_bias}
-use Rattle.lk_domain.specs.Calls.{Outlook}
 use Rattle.lk_law.specs.Agree.{halts}
-use Rattle.lk_law.specs.Leads.{Met, Word, Shared, held_lock}
-use Rattle.lk_domain.specs.Calls.{Unchanged, Takes, Frees, lock_name}
-use Rattle.lk_domain.specs.Paths.{next_frame, row_grip, Any}
 use Rattle.lk_run.proofs.Ways.{Leads}
 
 -- a row that takes the lock of a reader or a writer, and where the call goes on, if it does

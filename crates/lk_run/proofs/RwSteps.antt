@@ -1,44 +1,26 @@
 -- What a step call on the word of a reader-writer lock asks of a call, and what it does to it.
-use Rattle.std.proofs.Common.{◌≡◌, inl, inr, ℕ, ◌≢◌, List, length, Option, Some, None, Bool, true, false, eqb, eq-eqb, ne_eqb, refl, ap, ◌∙◌, subst, arith}
-use Rattle.std.specs.Prelude.{if◌then◌else◌}
-use Rattle.lk_names.specs.declared.holder.Manner.{Manner}
-use Rattle.lk_names.specs.declared.names.LockName.{LockName}
-use Rattle.lk_rows.specs.Moves.{first_place, wait_name}
-use Rattle.lk_rows.specs.Programs.{kind_of}
-use Rattle.lk_rows.specs.declared.parts.Frame.{Frame}
-use Rattle.lk_rows.specs.declared.parts.Pc.{Pc}
-use Rattle.lk_rows.specs.declared.parts.Pc.TheVariants.{F1, U1, R1, R2, R3, Wr2, Wr5, Y1, Y4}
-use Rattle.lk_rows.specs.declared.setup.Verb.{Verb}
-use Rattle.lk_rows.specs.declared.setup.Verb.TheVariants.{Read, TryRead, TryWrite, Write}
-use Rattle.lk_law.specs.Leads.{Met, Word, Shared}
-use Rattle.lk_law.specs.Sound.{after_wait, takes_wait}
-use Rattle.lk_law.proofs.common.Puts.{if-true}
-use Rattle.lk_domain.specs.Calls.{terms_of, sight_of, Running, begin, waits_in, lock_name, held_in}
-use Rattle.lk_domain.specs.Paths.{Any}
-use Rattle.lk_domain.specs.Plans.{kind_at}
-use Rattle.lk_domain.specs.Plays.{ActsIn, MadeBy, rowed}
-use Rattle.lk_domain.specs.Rows.{frees_by, queues_up}
-use Rattle.lk_domain.specs.RwRows.{watches_at}
+use Rattle.std.proofs.Common.{◌≡◌, inl, inr, ℕ, ◌≢◌, List, length, Option, Some, None, Bool, true}
+use Rattle.std.proofs.Common.{false, eqb, eq-eqb, ne_eqb, refl, ap, ◌∙◌, subst, arith}
+use Rattle.std.proofs.Common.{if◌then◌else◌}
+use Rattle.lk_run.proofs.Names.{Manner, LockName, first_place, wait_name, Frame, Pc, F1, R1, R2, U1}
+use Rattle.lk_run.proofs.Names.{Wr2, Wr5, Verb, Read, TryRead, TryWrite, Write, if-true, Met}
+use Rattle.lk_run.proofs.Names.{Shared, Word, after_wait, takes_wait, is_taking, Running, begin}
+use Rattle.lk_run.proofs.Names.{held_in, lock_name, sight_of, terms_of, waits_in, Any, ActsIn}
+use Rattle.lk_run.proofs.Names.{MadeBy, rowed, frees_by, queues_up, ActsFor, SharedBy, watches_at}
+use Rattle.lk_run.proofs.Names.{IsOf, KeepsRest, calls_of, ledger_of, view_of, Inside, IsOn}
+use Rattle.lk_run.proofs.Names.{Outside, Stage, Cpu, Domain, CameIn, HasPolled, Passed, StandsAs}
+use Rattle.lk_run.proofs.Names.{Start, Waits, biased, starting, waiter}
+use Rattle.lk_rows.specs.{Programs.kind_of, declared.parts.Pc.TheVariants.{R3, Y1, Y4}}
 use Rattle.lk_law.specs.Premises.{IsThen}
-use Rattle.lk_domain.specs.RwPlays.{ActsFor, SharedBy}
-use Rattle.lk_domain.specs.Seats.{IsOf, KeepsRest, calls_of, ledger_of, view_of}
-use Rattle.lk_domain.specs.Standing.{Stage, Outside, Inside, IsOn}
-use Rattle.lk_domain.specs.Waits.{MayTake}
-use Rattle.lk_domain.specs.declared.cpu.Cpu.{Cpu}
-use Rattle.lk_domain.specs.declared.domain.Domain.{Domain}
-use Rattle.lk_domain.proofs.Acting.{acts_on, begins_on}
-use Rattle.lk_domain.proofs.Standing as path
-use Rattle.lk_domain.proofs.Turned.{is_taking}
-use Rattle.lk_domain.proofs.Ways.{acts_first}
-use Rattle.lk_run.specs.Phases.{Start, StandsAs, Waits, HasPolled, CameIn, Passed, biased, starting, waiter}
+use Rattle.lk_domain.proofs.{Acting.{acts_on, begins_on}, Ways.acts_first}
+use Rattle.lk_domain.specs.{Plans.kind_at, Waits.MayTake}
+use Rattle.lk_run.proofs.{Polls.falls_none, RwRows.{TakesBy, SetsOut, FreesIt}}
+use Rattle.lk_run.proofs.{Steps.{seat_of, passes_none}, Ways.Leads}
 use Rattle.lk_run.specs.PolledRead.{Alone, Nested, Began}
+use Rattle.lk_domain.proofs.Standing as path
 use Rattle.lk_run.proofs.Entered as enter
-use Rattle.lk_run.proofs.Polls.{falls_none}
-use Rattle.lk_run.proofs.RwRows.{TakesBy, SetsOut, FreesIt}
 use Rattle.lk_run.proofs.Stepped as step
-use Rattle.lk_run.proofs.Steps.{seat_of, passes_none}
 use Rattle.lk_run.proofs.Ways as way
-use Rattle.lk_run.proofs.Ways.{Leads}
 
 -- what is asked of a call that begins
 pub acts_begin : (kind : Pc → Bool) (d : Domain) (v : Verb) (l : ℕ) (a : Cpu) → IsOf a d → MayTake l (calls_of a)

@@ -1,41 +1,22 @@
 -- What a step of a processor does to a try of a reader or a writer, and to a release of one.
-use Rattle.std.proofs.Common.{◌≡◌, ℕ, ◌+◌, [], ◌∷◌, ◌++◌, None, Bool, true, false, refl, sym, ap, ◌∙◌, subst}
-use Rattle.lk_names.specs.declared.holder.Manner.{Manner}
-use Rattle.lk_names.specs.declared.names.LockName.{LockName}
-use Rattle.lk_word.specs.declared.rw_word.RwFields.{RwFields}
-use Rattle.lk_rows.specs.Moves.{first_place}
-use Rattle.lk_rows.specs.declared.parts.Frame.{Frame}
-use Rattle.lk_rows.specs.declared.parts.Pc.{Pc}
-use Rattle.lk_rows.specs.declared.parts.Pc.TheVariants.{Y2, Y5}
-use Rattle.lk_rows.specs.declared.setup.Verb.{Verb}
-use Rattle.lk_rows.specs.declared.setup.Verb.TheVariants.{TryRead, TryWrite}
-use Rattle.lk_rows.specs.TopRow.{target}
-use Rattle.lk_law.specs.Leads.{Met, Shared, held_lock}
-use Rattle.lk_law.specs.Sound.{takes_wait}
-use Rattle.lk_domain.specs.Calls.{terms_of, sight_of, Terms, Calls, begin, waits_in, lock_name, row_of}
-use Rattle.lk_domain.specs.Calls.{Takes, Frees}
-use Rattle.lk_domain.specs.Ledgers.{Ledger, turned}
-use Rattle.lk_domain.specs.Paths.{Any, row_grip}
-use Rattle.lk_domain.specs.Plays.{rowed, turned_of}
-use Rattle.lk_domain.specs.RwPlays.{ActsFor, SharedBy}
-use Rattle.lk_domain.specs.RwRows.{joins_at, seizes_at}
-use Rattle.lk_domain.specs.Seats.{IsOf, KeepsRest, calls_of, ledger_of, view_of}
-use Rattle.lk_domain.specs.Standing.{Outside, IsAt}
-use Rattle.lk_domain.specs.Views.{own_number}
-use Rattle.lk_domain.specs.Waits.{WaitsAt, Moves, Gains, Misses}
-use Rattle.lk_domain.specs.declared.cpu.Cpu.{Cpu}
-use Rattle.lk_domain.specs.declared.domain.Domain.{Domain}
-use Rattle.lk_domain.proofs.Seating.{apart_of}
-use Rattle.lk_domain.proofs.Standing as path
-use Rattle.lk_domain.proofs.Turned.{is_taking}
-use Rattle.lk_domain.proofs.rw.Released as released
+use Rattle.std.proofs.Common.{◌≡◌, ℕ, ◌+◌, [], ◌∷◌, ◌++◌, None, Bool, true, false, refl, sym, ap}
+use Rattle.std.proofs.Common.{◌∙◌, subst}
+use Rattle.lk_run.proofs.Names.{RwFields, Manner, LockName, first_place, target, Frame, Pc, Y2, Y5}
+use Rattle.lk_run.proofs.Names.{Verb, TryRead, TryWrite, Met, Shared, held_lock, takes_wait}
+use Rattle.lk_run.proofs.Names.{apart_of, is_taking, Calls, Frees, Takes, Terms, begin, lock_name}
+use Rattle.lk_run.proofs.Names.{row_of, sight_of, terms_of, waits_in, Ledger, turned, Any, row_grip}
+use Rattle.lk_run.proofs.Names.{rowed, ActsFor, SharedBy, joins_at, seizes_at, IsOf, KeepsRest}
+use Rattle.lk_run.proofs.Names.{calls_of, ledger_of, view_of, Outside, Cpu, Domain}
 use Rattle.lk_domain.proofs.rw.Released.{Lets, reader, writer}
+use Rattle.lk_domain.specs.{Plays.turned_of, Standing.IsAt, Views.own_number}
+use Rattle.lk_domain.specs.Waits.{WaitsAt, Moves, Gains, Misses}
+use Rattle.lk_run.proofs.{RwRows.{TakesBy, Fails}, Ways.Leads}
 use Rattle.lk_run.specs.Entering.{Leaves}
-use Rattle.lk_run.proofs.RwRows.{TakesBy, Fails}
+use Rattle.lk_domain.proofs.Standing as path
+use Rattle.lk_domain.proofs.rw.Released as released
 use Rattle.lk_run.proofs.RwSteps as rw
 use Rattle.lk_run.proofs.Stepped as step
 use Rattle.lk_run.proofs.Ways as way
-use Rattle.lk_run.proofs.Ways.{Leads}
 
 module _ (d : Domain) (v : Verb) (l : ℕ) (a b : Cpu) (rest : KeepsRest a b) (of : IsOf a d) (was : Calls) (x : Met)
     (is : view_of b ≡ rowed (view_of a) was x) (c : Pc) (old : Calls)

@@ -1,27 +1,13 @@
 -- Readers and writers that wait: where they stand, and what polls leave of them.
 use Rattle.std.proofs.Common.{◌≡◌, ◌≢◌, ℕ, Bool, List, length, Option, None, refl, ap, arith}
-use Rattle.lk_rows.specs.Moves.{wait_name}
-use Rattle.lk_rows.specs.declared.parts.Frame.{Frame}
-use Rattle.lk_rows.specs.declared.parts.Pc.{Pc}
-use Rattle.lk_rows.specs.declared.parts.Pc.TheVariants.{R2, R5, Wr5}
-use Rattle.lk_rows.specs.declared.setup.Verb.TheVariants.{Read, Write}
-use Rattle.lk_domain.specs.Calls.{Running, lock_name}
-use Rattle.lk_domain.specs.Paths.{Any, AreKept}
-use Rattle.lk_domain.specs.Seats.{calls_of}
-use Rattle.lk_domain.specs.declared.cpu.Cpu.{Cpu}
-use Rattle.lk_domain.specs.declared.domain.Domain.{Domain}
-use Rattle.lk_domain.specs.declared.plan.Plan.{Plan}
-use Rattle.lk_run.specs.Phases.{Start, HasPolled, Waiter}
-use Rattle.lk_run.specs.Polls.{GivesWay}
-use Rattle.lk_run.specs.PolledRead as read
-use Rattle.lk_run.specs.PolledRead.{Alone, Nested}
-use Rattle.lk_run.specs.PolledWrite as write
-use Rattle.lk_run.specs.Resting.{row_at, frame_at}
-use Rattle.lk_run.specs.Turns.{Stands}
+use Rattle.lk_run.proofs.Names.{wait_name, Frame, Pc, R2, R5, Wr5, Read, Write, Running, lock_name}
+use Rattle.lk_run.proofs.Names.{Any, AreKept, calls_of, Cpu, Domain, Plan, HasPolled, Start, Waiter}
+use Rattle.lk_run.proofs.Names.{GivesWay, ReadPlace, WritePlace}
+use Rattle.lk_run.specs.{PolledRead.{Alone, Nested}, Resting.{row_at, frame_at}, Turns.Stands}
 use Rattle.lk_run.specs.Waiters.{Waits, At}
-use Rattle.lk_run.specs.declared.read_waiter.ReadPlace.{ReadPlace}
+use Rattle.lk_run.specs.PolledRead as read
+use Rattle.lk_run.specs.PolledWrite as write
 use Rattle.lk_run.specs.declared.read_waiter.ReadPlace.TheVariants as at
-use Rattle.lk_run.specs.declared.write_waiter.WritePlace.{WritePlace}
 use Rattle.lk_run.specs.declared.write_waiter.WritePlace.TheVariants as place
 use Rattle.lk_run.proofs.Stepped as way
 use Rattle.lk_run.proofs.Turning as turn

@@ -1,28 +1,20 @@
 -- A call of a reader or the writer from stage to stage.
-use Rattle.std.proofs.Common.{◌≡◌, ◌≤◌, inl, inr, ℕ, ◌+◌, ◌<◌, List, [], ◌∷◌, length, Some, None, Bool}
+use Rattle.std.proofs.Common.{◌≡◌, ◌≤◌, inl, inr, ℕ, ◌+◌, ◌<◌, List, [], ◌∷◌, length, Some, None}
+use Rattle.std.proofs.Common.{Bool, true, false, append-nil, eqb, eqb-true, eq-eqb, refl, sym, ap}
+use Rattle.std.proofs.Common.{◌∙◌, arith, ◌&&◌}
 use Rattle.std.proofs.lemmas.Bool.{cases_Bool}
-use Rattle.std.proofs.Common.{true, false, append-nil, eqb, eqb-true, eq-eqb, refl, sym, ap, ◌∙◌, arith}
-use Rattle.std.specs.Prelude.{◌&&◌}
-use Rattle.lk_names.specs.Names.{same_lock}
-use Rattle.lk_names.specs.declared.holder.Manner.{Manner}
-use Rattle.lk_names.specs.declared.holder.Manner.TheVariants.{Spins}
-use Rattle.lk_names.specs.declared.names.LockName.{LockName}
-use Rattle.lk_rows.specs.Moves.{wait_name, waiting}
-use Rattle.lk_rows.specs.declared.parts.Frame.{Frame}
-use Rattle.lk_rows.specs.declared.parts.Pc.{Pc}
-use Rattle.lk_rows.specs.declared.parts.Pc.TheVariants.{F1, U1}
-use Rattle.lk_rows.specs.declared.setup.Verb.{Verb}
-use Rattle.lk_rows.specs.TopRow.{target}
-use Rattle.lk_law.specs.Leads.{Met, held_lock}
-use Rattle.lk_law.specs.Sound.{after_wait, takes_wait}
-use Rattle.lk_law.proofs.common.Puts.{if-true, if-false, not-true}
-use Rattle.lk_law.proofs.common.Sames.{same_lock-self, same_lock-true}
-use Rattle.lk_domain.specs.Calls.{sight_of, Terms, mark, Hold, hold, Calls, begun, lock_name, row_of}
-use Rattle.lk_domain.specs.Calls.{holds_after, Grip, Unchanged, Takes, Frees, free_of, held_in}
-use Rattle.lk_domain.specs.Paths.{next_frame, row_grip, PathTo, Any}
-use Rattle.lk_domain.specs.Standing.{Outside, Inside, Entered, IsOn}
+use Rattle.lk_run.proofs.Names.{same_lock, Manner, Spins, LockName, wait_name, target, Frame, Pc}
+use Rattle.lk_run.proofs.Names.{F1, U1, Verb, if-false, if-true, Met, held_lock, after_wait}
+use Rattle.lk_run.proofs.Names.{takes_wait, Calls, Frees, Takes, Terms, Unchanged, held_in}
+use Rattle.lk_run.proofs.Names.{lock_name, mark, row_of, sight_of, Any, next_frame, row_grip}
+use Rattle.lk_run.proofs.Names.{Inside, IsOn, Outside}
+use Rattle.lk_rows.specs.Moves.{waiting}
+use Rattle.lk_law.proofs.{common.Puts.not-true, common.Sames.{same_lock-self, same_lock-true}}
 use Rattle.lk_domain.proofs.Stacks.{and_parts}
-use Rattle.lk_domain.proofs.Standing.{holds_is, count_after, takes_is, frames_off, last_is, leads, path_is, path_upto, takes, more_taken}
+use Rattle.lk_domain.proofs.Standing.{holds_is, count_after, takes_is, frames_off, last_is, leads}
+use Rattle.lk_domain.proofs.Standing.{path_is, path_upto, takes, more_taken}
+use Rattle.lk_domain.specs.{Calls.{Hold, hold, begun, holds_after, Grip, free_of}, Paths.PathTo}
+use Rattle.lk_domain.specs.Standing.{Entered}
 use Rattle.lk_run.specs.Entering.{HasEntered}
 
 -- a call that has no lock yet

@@ -1,41 +1,23 @@
 -- What a step call of a processor does to its call that waits.
-use Rattle.std.proofs.Common.{◌≡◌, ℕ, zero, suc, [], ◌∷◌, ◌++◌, length, Option, Bool, true, false, eqb, refl, sym, ap, ◌∙◌, subst, arith}
-use Rattle.std.proofs.Common.{◌||◌}
-use Rattle.std.specs.Prelude.{◌&&◌, None, Some}
-use Rattle.lk_names.specs.declared.names.LockName.{LockName}
-use Rattle.lk_names.specs.declared.names.Mode.{Mode}
-use Rattle.lk_rows.specs.Moves.{first_place, wait_name}
-use Rattle.lk_rows.specs.declared.parts.Frame.{Frame}
-use Rattle.lk_rows.specs.declared.parts.Pc.{Pc}
-use Rattle.lk_rows.specs.declared.setup.Verb.{Verb}
-use Rattle.lk_names.specs.Names.{same_lock}
-use Rattle.lk_law.proofs.common.Puts.{if-false}
-use Rattle.lk_law.specs.Families.{is_rw_row}
-use Rattle.lk_law.specs.Leads.{Met, Word, Shared}
-use Rattle.lk_law.specs.Sound.{takes_wait}
-use Rattle.lk_domain.specs.Calls.{told, told_by}
-use Rattle.lk_domain.proofs.rows.Users.{told_on}
-use Rattle.lk_domain.specs.Calls.{terms_of, sight_of, mark, Calls, acting, begin, waits_in, holds_in, lock_name, held_in, StandsOn}
-use Rattle.lk_domain.specs.Paths.{Passes, is_busy, Any, next_frame}
-use Rattle.lk_domain.specs.Plays.{ActsIn, MadeBy, made, rowed}
-use Rattle.lk_domain.specs.RwPlays.{SharedBy}
-use Rattle.lk_domain.specs.NodePlays.{AtRow, counting}
-use Rattle.lk_domain.specs.Rows.{looks_by, takes_by, is_watch, is_swap}
-use Rattle.lk_domain.specs.Seats.{IsOf, KeepsRest, calls_of, ledger_of, view_of}
-use Rattle.lk_domain.specs.Standing.{Stage, Outside, Inside, IsOn}
-use Rattle.lk_domain.specs.declared.cpu.Cpu.{Cpu}
-use Rattle.lk_domain.specs.declared.domain.Domain.{Domain}
-use Rattle.lk_domain.specs.declared.plan.Plan.{Plan}
-use Rattle.lk_domain.specs.declared.view.View.{View}
-use Rattle.lk_domain.proofs.Acting.{acting_is, acts_on, begins_on}
+use Rattle.std.proofs.Common.{◌≡◌, ℕ, zero, suc, [], ◌∷◌, ◌++◌, length, Option, Bool, true, false}
+use Rattle.std.proofs.Common.{eqb, refl, sym, ap, ◌∙◌, subst, arith, ◌||◌, ◌&&◌, None, Some}
+use Rattle.lk_run.proofs.Names.{same_lock, LockName, Mode, first_place, wait_name, Frame, Pc, Verb}
+use Rattle.lk_run.proofs.Names.{if-false, is_rw_row, Met, Shared, Word, takes_wait, is_taking}
+use Rattle.lk_run.proofs.Names.{Calls, begin, held_in, holds_in, lock_name, mark, sight_of}
+use Rattle.lk_run.proofs.Names.{terms_of, told, waits_in, counting, Any, Passes, is_busy}
+use Rattle.lk_run.proofs.Names.{next_frame, ActsIn, MadeBy, rowed, is_swap, is_watch, looks_by}
+use Rattle.lk_run.proofs.Names.{takes_by, SharedBy, IsOf, KeepsRest, calls_of, ledger_of, view_of}
+use Rattle.lk_run.proofs.Names.{Inside, IsOn, Outside, Stage, Cpu, Domain, Plan, View, HasPolled}
+use Rattle.lk_run.proofs.Names.{OwesPoll, StandsAs, Start, Waits, newest, starting, waiter}
+use Rattle.lk_run.proofs.Names.{Acquires, GivesWay, HasStayed, RisesBy}
+use Rattle.lk_domain.proofs.{Acting.{acting_is, acts_on, begins_on}, rows.Users.told_on}
+use Rattle.lk_domain.specs.{Calls.{told_by, acting, StandsOn}, NodePlays.AtRow, Plays.made}
+use Rattle.lk_run.proofs.{Polls.{falls_none, acquired, recount}, Steps.passes_none}
+use Rattle.lk_run.proofs.Ways.{Leads, Ends, queues_patient, queues_inside, queues_looks}
+use Rattle.lk_run.proofs.Ways.{queues_swaps, then_is}
+use Rattle.lk_run.specs.Phases.{Won, Queues}
 use Rattle.lk_domain.proofs.Standing as path
-use Rattle.lk_domain.proofs.Turned.{is_taking}
-use Rattle.lk_run.specs.Polls.{RisesBy, HasStayed, Acquires, GivesWay}
-use Rattle.lk_run.specs.Phases.{Start, newest, StandsAs, OwesPoll, HasPolled, Waits, Won, Queues, starting, waiter}
-use Rattle.lk_run.proofs.Polls.{falls_none, acquired, recount}
-use Rattle.lk_run.proofs.Steps.{passes_none}
 use Rattle.lk_run.proofs.Ways as way
-use Rattle.lk_run.proofs.Ways.{Leads, Ends, queues_patient, queues_inside, queues_looks, queues_swaps, then_is}
 
 -- a step of a processor of the domain
 module _ (d : Domain) (v : Verb) (n : LockName) (a b : Cpu) (rest : KeepsRest a b) (of : IsOf a d) where

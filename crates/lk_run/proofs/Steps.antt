@@ -1,26 +1,14 @@
 -- What a step of a processor does to a call.
-use Rattle.std.proofs.Common.{◌≡◌, ℕ, ◌<◌, List, [], ◌++◌, append-nil, append_assoc, Bool, true, false, eqb, refl, sym, ap, ◌∙◌, subst, arith}
-use Rattle.std.proofs.Common.{◌||◌}
-use Rattle.lk_names.specs.declared.holder.Manner.{Manner}
-use Rattle.lk_names.specs.declared.holder.Manner.TheVariants.{Spins}
-use Rattle.lk_names.specs.declared.names.LockName.{LockName}
-use Rattle.lk_rows.specs.declared.parts.Pc.{Pc}
-use Rattle.lk_rows.specs.declared.setup.Verb.{Verb}
-use Rattle.lk_rows.specs.declared.setup.Verb.TheVariants.{Try}
+use Rattle.std.proofs.Common.{◌≡◌, ℕ, ◌<◌, List, [], ◌++◌, append-nil, append_assoc, Bool, true}
+use Rattle.std.proofs.Common.{false, eqb, refl, sym, ap, ◌∙◌, subst, arith, ◌||◌}
+use Rattle.lk_run.proofs.Names.{Manner, Spins, LockName, Pc, Verb, Try, Calls, Mark, Takes}
+use Rattle.lk_run.proofs.Names.{lock_name, terms_of, Ledger, turned, Any, HasLooked, HasTaken}
+use Rattle.lk_run.proofs.Names.{Passes, is_busy, ActsIn, looks_by, queues_up, IsOf, KeepsRest}
+use Rattle.lk_run.proofs.Names.{calls_of, view_of, Cpu, Domain, View}
 use Rattle.lk_names.specs.declared.names.Kind.TheVariants.{Spin}
-use Rattle.lk_domain.specs.Plans.{kind_at}
-use Rattle.lk_domain.specs.Calls.{terms_of, Mark, Calls, Takes, lock_name}
-use Rattle.lk_domain.specs.Ledgers.{Ledger, Look, turned}
-use Rattle.lk_domain.specs.Paths.{HasTaken, HasMissed, Any, Passes, is_busy, HasLooked}
-use Rattle.lk_domain.specs.Plays.{Acts, ActsOn, ActsIn}
-use Rattle.lk_domain.specs.Rows.{queues_up, looks_by}
-use Rattle.lk_domain.specs.declared.view.View.{View}
-use Rattle.lk_domain.specs.Seats.{IsOf, KeepsRest, view_of, calls_of}
-use Rattle.lk_domain.specs.Standing.{IsAt}
-use Rattle.lk_domain.specs.Waits.{MayTake, Moves, Gains, Misses}
-use Rattle.lk_domain.specs.declared.cpu.Cpu.{Cpu}
-use Rattle.lk_domain.specs.declared.domain.Domain.{Domain}
 use Rattle.lk_domain.proofs.Ways.{IsSeat, Moved, Took, Missed, acts_first}
+use Rattle.lk_domain.specs.{Ledgers.Look, Paths.HasMissed, Plans.kind_at, Plays.{Acts, ActsOn}}
+use Rattle.lk_domain.specs.{Standing.IsAt, Waits.{MayTake, Moves, Gains, Misses}}
 
 -- the seat of a processor of the domain
 pub seat_of : (d : Domain) (a : Cpu) → IsOf a d → IsSeat d.plan a.number (view_of a)

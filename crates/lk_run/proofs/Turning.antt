@@ -1,25 +1,15 @@
 -- Turns of a call that waits, and what polls leave between them.
-use Rattle.std.proofs.Common.{◌≡◌, ◌+◌, ◌≤◌, ℕ, Bool, false, List, Option, Some, None, refl, sym, ap, subst, arith}
-use Rattle.lk_names.specs.declared.names.LockName.{LockName}
-use Rattle.lk_rows.specs.declared.parts.Frame.{Frame}
-use Rattle.lk_rows.specs.declared.parts.Pc.{Pc}
-use Rattle.lk_rows.specs.declared.parts.Pc.TheVariants.{F1}
-use Rattle.lk_rows.specs.declared.setup.Verb.{Verb}
-use Rattle.lk_domain.specs.Calls.{Running, told}
-use Rattle.lk_domain.specs.Paths.{Any, AreKept}
-use Rattle.lk_domain.specs.Seats.{IsOf, KeepsRest, calls_of, ledger_of, view_of}
-use Rattle.lk_domain.specs.Standing.{Outside, locks_at}
-use Rattle.lk_domain.specs.declared.cpu.Cpu.{Cpu}
-use Rattle.lk_domain.specs.declared.domain.Domain.{Domain}
-use Rattle.lk_domain.specs.declared.plan.Plan.{Plan}
-use Rattle.lk_run.specs.Phases.{Start, OwesPoll, HasPolled, newest, Waiter, waiter}
-use Rattle.lk_run.specs.Polls.{GivesWay}
-use Rattle.lk_run.specs.Resting.{Arrived, Came, Fits, KnowsIn, Rests, Owes, RestsAt, Turns, Turned, row_at, frame_at}
-use Rattle.lk_run.specs.Turns.{Turn, Path, Earns, Begun}
-use Rattle.lk_run.specs.Words.{At, Meets, Steps, LooksOn, Takes}
-use Rattle.lk_run.specs.declared.call.Call.{Call}
-use Rattle.lk_run.specs.declared.rest.Rest.{Rest}
+use Rattle.std.proofs.Common.{◌≡◌, ◌+◌, ◌≤◌, ℕ, Bool, false, List, Option, Some, None, refl, sym}
+use Rattle.std.proofs.Common.{ap, subst, arith}
+use Rattle.lk_run.proofs.Names.{LockName, Frame, Pc, F1, Verb, Running, told, Any, AreKept, IsOf}
+use Rattle.lk_run.proofs.Names.{KeepsRest, calls_of, ledger_of, view_of, Outside, Cpu, Domain, Plan}
+use Rattle.lk_run.proofs.Names.{HasPolled, OwesPoll, Start, Waiter, newest, waiter, GivesWay, Path}
+use Rattle.lk_run.proofs.Names.{At, Steps, Rest}
+use Rattle.lk_domain.specs.Standing.{locks_at}
 use Rattle.lk_run.proofs.Steps.{still_of, rest_both, rest_same, passes_none}
+use Rattle.lk_run.specs.Resting.{Arrived, Came, Fits, KnowsIn, Rests, Owes, RestsAt, Turns, Turned}
+use Rattle.lk_run.specs.{Resting.{row_at, frame_at}, Turns.{Turn, Earns, Begun}}
+use Rattle.lk_run.specs.{Words.{Meets, LooksOn, Takes}, declared.call.Call.Call}
 use Rattle.lk_run.proofs.Stepped as way
 
 -- turns of any call

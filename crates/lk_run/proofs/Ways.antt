@@ -1,46 +1,28 @@
 -- What a step of a processor does to a call that waits: it goes on, looks, or has the lock for which it
 -- queued.
-use Rattle.std.proofs.Common.{◌≡◌, inl, inr, ℕ, ◌+◌, List, [], ◌∷◌, ◌++◌, Option, Some, None, Bool, true, false, eqb, refl, sym, ap, ◌∙◌, subst, arith}
-use Rattle.std.proofs.Common.{◌||◌}
-use Rattle.std.specs.Prelude.{if◌then◌else◌, ◌&&◌, not}
-use Rattle.lk_names.specs.declared.holder.Manner.TheVariants.{Spins}
-use Rattle.lk_names.specs.declared.names.LockName.{LockName}
-use Rattle.lk_names.specs.declared.names.Mode.{Mode}
-use Rattle.lk_rows.specs.Moves.{wait_name}
-use Rattle.lk_rows.specs.declared.parts.Frame.{Frame}
-use Rattle.lk_rows.specs.declared.parts.Pc.{Pc}
-use Rattle.lk_rows.specs.declared.parts.Pc.TheVariants.{G1}
-use Rattle.lk_rows.specs.declared.setup.Verb.{Verb}
-use Rattle.lk_rows.specs.declared.setup.Verb.TheVariants.{Lock, Read, Write}
-use Rattle.lk_rows.specs.TopRow.{target}
-use Rattle.lk_domain.specs.Calls.{Outlook}
-use Rattle.lk_law.specs.Families.{is_rw_row}
-use Rattle.lk_law.specs.Leads.{Met, Number, held_lock}
+use Rattle.std.proofs.Common.{◌≡◌, inl, inr, ℕ, ◌+◌, List, [], ◌∷◌, ◌++◌, Option, Some, None, Bool}
+use Rattle.std.proofs.Common.{true, false, eqb, refl, sym, ap, ◌∙◌, subst, arith, ◌||◌}
+use Rattle.std.proofs.Common.{if◌then◌else◌, ◌&&◌, not}
+use Rattle.lk_run.proofs.Names.{Spins, LockName, Mode, wait_name, target, Frame, Pc, G1, Verb, Lock}
+use Rattle.lk_run.proofs.Names.{Read, Write, if-false, if-true, is_rw_row, Met, Number, held_lock}
+use Rattle.lk_run.proofs.Names.{after_wait, is_taking, Calls, Mark, Outlook, Running, Takes}
+use Rattle.lk_run.proofs.Names.{Unchanged, holds_in, lock_name, mark, row_of, sight_of, terms_of}
+use Rattle.lk_run.proofs.Names.{waits_in, Ledger, turned, readies, Any, Passes, is_busy, next_frame}
+use Rattle.lk_run.proofs.Names.{row_grip, rowed, is_swap, is_watch, looks_by, queues_up, takes_by}
+use Rattle.lk_run.proofs.Names.{IsOf, KeepsRest, calls_of, ledger_of, view_of, Inside, IsOn}
+use Rattle.lk_run.proofs.Names.{Outside, Stage, Cpu, Domain, View, HasPolled, Holds, OwesPoll}
+use Rattle.lk_run.proofs.Names.{Start, newest, waiter, Acquires, GivesWay, HasStayed, NeverFalls}
+use Rattle.lk_run.proofs.Names.{RisesBy}
 use Rattle.lk_rows.specs.rows.Queue.{entry_row}
-use Rattle.lk_law.specs.Leads.{course_of}
-use Rattle.lk_law.specs.Sound.{after_wait}
-use Rattle.lk_law.proofs.common.Puts.{if-true, if-false}
-use Rattle.lk_domain.specs.Calls.{terms_of, sight_of, read_at, grip_of, Mark, mark, Running, running, Calls, holds_in, waits_in, lock_name}
-use Rattle.lk_domain.specs.Calls.{row_of, row_on, row_at, after, frames_after, taken_after, Grip, Unchanged, Takes}
-use Rattle.lk_domain.specs.Ledgers.{Ledger, turned}
-use Rattle.lk_domain.specs.NodePlays.{readies}
-use Rattle.lk_domain.specs.Paths.{next_frame, row_grip, Any, Passes, is_busy}
-use Rattle.lk_domain.specs.Plays.{rowed, turned_of, turned_on, turned_at}
-use Rattle.lk_domain.specs.Rows.{queues_up, is_patient, looks_by, takes_by, is_watch, is_swap}
-use Rattle.lk_law.specs.Premises.{IsThen}
-use Rattle.lk_domain.proofs.Standing as path
-use Rattle.lk_domain.proofs.Turned.{is_taking}
-use Rattle.lk_domain.specs.Seats.{IsOf, KeepsRest, calls_of, ledger_of, view_of}
-use Rattle.lk_domain.specs.Standing.{Stage, Outside, Inside, IsOn, locks_at}
-use Rattle.lk_domain.specs.Views.{own_number}
-use Rattle.lk_domain.specs.declared.cpu.Cpu.{Cpu}
-use Rattle.lk_domain.specs.declared.domain.Domain.{Domain}
-use Rattle.lk_domain.specs.declared.view.View.{View}
-use Rattle.lk_run.specs.Polls.{NeverFalls, RisesBy, HasStayed, Acquires, GivesWay}
-use Rattle.lk_run.specs.Phases.{Start, newest, OwesPoll, HasPolled, Holds, Won, Queues, resumes, waiter}
-use Rattle.lk_run.proofs.Polls.{rises_after, falls_after, stays_before, more_after, polled_by, recount}
-use Rattle.lk_run.proofs.Standing.{grants as grants_it}
+use Rattle.lk_law.specs.{Leads.course_of, Premises.IsThen}
+use Rattle.lk_domain.specs.Calls.{read_at, grip_of, running, row_on, row_at, after, frames_after}
+use Rattle.lk_domain.specs.{Calls.{taken_after, Grip}, Plays.{turned_of, turned_on, turned_at}}
+use Rattle.lk_domain.specs.{Rows.is_patient, Standing.locks_at, Views.own_number}
+use Rattle.lk_run.proofs.Polls.{rises_after, falls_after, stays_before, more_after, polled_by}
+use Rattle.lk_run.proofs.{Polls.recount, Standing.grants as grants_it}
 use Rattle.lk_run.proofs.Steps.{passes_none, passes_both, looked}
+use Rattle.lk_run.specs.Phases.{Won, Queues, resumes}
+use Rattle.lk_domain.proofs.Standing as path
 
 -- where a row leads that goes on, and what its frame then is
 pub record Leads (mode : Mode) (p : ℕ) (z : Outlook) (c : Pc) (f : Frame) (x : Met) (e : Pc) (Q : Frame → Type 0) : Type 0 where

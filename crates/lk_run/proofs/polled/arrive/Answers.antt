@@ -1,7 +1,6 @@
 use Rattle.std.proofs.Common.{◌≡◌, None, subst}
-use Rattle.lk_run.specs.Phases.{starting}
-use Rattle.lk_run.specs.Polled.{Arrived}
-use Rattle.lk_run.specs.declared.waiter.Arrival.{Arrival}
+use Rattle.lk_run.proofs.Names.{starting}
+use Rattle.lk_run.specs.{Polled.Arrived, declared.waiter.Arrival.Arrival}
 use Rattle.lk_run.proofs.polled.arrive.Goals as goal
 
 pub returns-then-met-eq0-clause-holds : goal.returns-then-met-eq0-clause-holds

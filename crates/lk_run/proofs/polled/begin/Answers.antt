@@ -1,14 +1,7 @@
 use Rattle.std.proofs.Common.{◌≡◌, ℕ, Option, None, Some, true, false, refl, sym, ◌∙◌}
-use Rattle.lk_names.specs.declared.holder.Manner.TheVariants.{Spins}
-use Rattle.lk_rows.specs.declared.setup.Verb.TheVariants.{Lock}
-use Rattle.lk_domain.specs.Seats.{calls_of}
-use Rattle.lk_domain.specs.declared.cpu.Cpu.{Cpu}
-use Rattle.lk_domain.specs.declared.domain.Domain.{Domain}
-use Rattle.lk_run.specs.Phases.{Holds, starting}
-use Rattle.lk_run.specs.Polled.{Waits, TakesOne}
-use Rattle.lk_run.specs.declared.waiter.Waiter.{Waiter}
-use Rattle.lk_run.proofs.Steps.{still_of, rest_both}
-use Rattle.lk_run.proofs.Ways.{none_more}
+use Rattle.lk_run.proofs.Names.{Spins, Lock, calls_of, Cpu, Domain, Holds, starting}
+use Rattle.lk_run.proofs.{Steps.{still_of, rest_both}, Ways.none_more}
+use Rattle.lk_run.specs.{Polled.{Waits, TakesOne}, declared.waiter.Waiter.Waiter}
 use Rattle.lk_run.proofs.polled.begin.Goals as goal
 
 pub returns-in-None-clause-holds : goal.returns-in-None-clause-holds

@@ -1,11 +1,8 @@
-use Rattle.lk_rows.specs.declared.setup.Verb.TheVariants.{Lock}
-use Rattle.lk_domain.specs.Calls.{lock_name}
 use Rattle.std.proofs.Common.{◌≡◌, None, sym, ◌∙◌, subst}
-use Rattle.lk_domain.specs.Seats.{calls_of}
-use Rattle.lk_run.specs.Polled.{Waits}
-use Rattle.lk_run.specs.declared.waiter.Waiter.{Waiter}
-use Rattle.lk_run.proofs.Turning as turn
+use Rattle.lk_run.proofs.Names.{Lock, lock_name, calls_of}
 use Rattle.lk_run.proofs.Ways.{none_more}
+use Rattle.lk_run.specs.{Polled.Waits, declared.waiter.Waiter.Waiter}
+use Rattle.lk_run.proofs.Turning as turn
 use Rattle.lk_run.proofs.polled.poll.Goals as goal
 
 pub returns-in-Some-clause-waits : goal.returns-in-Some-clause-waits

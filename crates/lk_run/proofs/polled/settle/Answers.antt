@@ -1,8 +1,6 @@
 use Rattle.std.proofs.Common.{◌≡◌, None, subst}
-use Rattle.lk_rows.specs.declared.setup.Verb.TheVariants.{Lock}
-use Rattle.lk_domain.specs.Calls.{lock_name}
-use Rattle.lk_run.specs.Polled.{Waits}
-use Rattle.lk_run.specs.declared.waiter.Waiter.{Waiter}
+use Rattle.lk_run.proofs.Names.{Lock, lock_name}
+use Rattle.lk_run.specs.{Polled.Waits, declared.waiter.Waiter.Waiter}
 use Rattle.lk_run.proofs.Turning as turn
 use Rattle.lk_run.proofs.polled.settle.Goals as goal
 

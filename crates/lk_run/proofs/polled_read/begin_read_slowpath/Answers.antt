@@ -1,7 +1,6 @@
 use Rattle.std.proofs.Common.{◌≡◌, None, subst}
-use Rattle.lk_run.specs.PolledRead.{Waits}
-use Rattle.lk_run.specs.declared.read_waiter.ReadWaiter.{ReadWaiter}
 use Rattle.lk_run.proofs.RwTurning.{read_due_none}
+use Rattle.lk_run.specs.{PolledRead.Waits, declared.read_waiter.ReadWaiter.ReadWaiter}
 use Rattle.lk_run.proofs.polled_read.begin_read_slowpath.Goals as goal
 
 pub contend-requires : goal.contend-requires

@@ -1,7 +1,6 @@
 use Rattle.std.proofs.Common.{◌≡◌, None, subst}
-use Rattle.lk_run.specs.PolledRead.{Waits}
-use Rattle.lk_run.specs.declared.read_waiter.ReadWaiter.{ReadWaiter}
 use Rattle.lk_run.proofs.RwTurning.{read_due_none}
+use Rattle.lk_run.specs.{PolledRead.Waits, declared.read_waiter.ReadWaiter.ReadWaiter}
 use Rattle.lk_run.proofs.polled_read.poll_read.Goals as goal
 
 pub turn-requires-clause-waits : goal.turn-requires-clause-waits

@@ -1,7 +1,6 @@
 use Rattle.std.proofs.Common.{◌≡◌, None, subst}
-use Rattle.lk_run.specs.PolledWrite.{Waits}
-use Rattle.lk_run.specs.declared.write_waiter.WriteWaiter.{WriteWaiter}
 use Rattle.lk_run.proofs.RwTurning.{write_due_none}
+use Rattle.lk_run.specs.{PolledWrite.Waits, declared.write_waiter.WriteWaiter.WriteWaiter}
 use Rattle.lk_run.proofs.polled_write.begin_write_slowpath.Goals as goal
 
 pub contend-requires : goal.contend-requires

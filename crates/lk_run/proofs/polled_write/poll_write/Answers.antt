@@ -1,7 +1,6 @@
 use Rattle.std.proofs.Common.{◌≡◌, None, subst}
-use Rattle.lk_run.specs.PolledWrite.{Waits}
-use Rattle.lk_run.specs.declared.write_waiter.WriteWaiter.{WriteWaiter}
 use Rattle.lk_run.proofs.RwTurning.{write_due_none}
+use Rattle.lk_run.specs.{PolledWrite.Waits, declared.write_waiter.WriteWaiter.WriteWaiter}
 use Rattle.lk_run.proofs.polled_write.poll_write.Goals as goal
 
 pub turn-requires-clause-waits : goal.turn-requires-clause-waits

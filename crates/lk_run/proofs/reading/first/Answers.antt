@@ -1,12 +1,6 @@
 use Rattle.std.proofs.Common.{ap, sym, refl, length, subst, ◌∙◌}
-use Rattle.lk_names.specs.declared.names.LockName.{LockName}
-use Rattle.lk_rows.specs.declared.parts.Pc.TheVariants.{R1}
-use Rattle.lk_rows.specs.declared.setup.Verb.TheVariants.{Read}
-use Rattle.lk_domain.specs.Calls.{waits_in}
-use Rattle.lk_domain.specs.Paths.{Any}
-use Rattle.lk_domain.specs.RwRows.{joins_at}
-use Rattle.lk_domain.specs.Seats.{calls_of}
-use Rattle.lk_run.specs.Phases.{Waits, biased, starting}
+use Rattle.lk_run.proofs.Names.{LockName, R1, Read, waits_in, Any, joins_at, calls_of, Waits}
+use Rattle.lk_run.proofs.Names.{biased, starting}
 use Rattle.lk_run.proofs.RwFast as fast
 use Rattle.lk_run.proofs.RwSteps as rw
 use Rattle.lk_run.proofs.reading.first.Goals as goal

@@ -1,6 +1,5 @@
 use Rattle.lk_run.proofs.Turning as turn
-use Rattle.lk_run.proofs.Steps.{still_of}
-use Rattle.lk_run.proofs.RwTurning.{read_polled, read_fits}
+use Rattle.lk_run.proofs.{RwTurning.{read_polled, read_fits}, Steps.still_of}
 use Rattle.lk_run.proofs.reading.read_slowpath.Goals as goal
 
 pub contend-requires : goal.contend-requires

@@ -1,6 +1,5 @@
+use Rattle.lk_run.proofs.Names.{Path, ReadPlace}
 use Rattle.lk_run.specs.PolledRead.{Began, Fits, Owes}
-use Rattle.lk_run.specs.Turns.{Path}
-use Rattle.lk_run.specs.declared.read_waiter.ReadPlace.{ReadPlace}
 use Rattle.lk_run.proofs.reading.read_slowpath.Given as goal
 
 abbrev pub invariant-loop : goal.invariant-loop

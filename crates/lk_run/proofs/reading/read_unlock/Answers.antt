@@ -1,11 +1,9 @@
 use Rattle.std.proofs.Common.{refl}
+use Rattle.lk_run.proofs.Names.{apart_of, quits_by, view_of}
 use Rattle.lk_rows.specs.declared.setup.Verb.TheVariants.{RUnlock}
-use Rattle.lk_domain.specs.RwRows.{quits_by}
-use Rattle.lk_domain.specs.Seats.{view_of}
-use Rattle.lk_domain.proofs.Seating.{apart_of}
 use Rattle.lk_domain.proofs.rw.Released.{reader, acts_leaving}
-use Rattle.lk_run.proofs.RwTries as try
 use Rattle.lk_run.proofs.Steps.{seat_of}
+use Rattle.lk_run.proofs.RwTries as try
 use Rattle.lk_run.proofs.reading.read_unlock.Goals as goal
 
 pub subtract_bias-requires-clause-row : goal.subtract_bias-requires-clause-row

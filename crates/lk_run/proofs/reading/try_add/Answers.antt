@@ -1,10 +1,5 @@
 use Rattle.std.proofs.Common.{sym, ◌∙◌}
-use Rattle.lk_names.specs.declared.holder.Manner.TheVariants.{Reads}
-use Rattle.lk_rows.specs.declared.parts.Pc.TheVariants.{Y2, Y3}
-use Rattle.lk_rows.specs.declared.setup.Verb.TheVariants.{TryRead}
-use Rattle.lk_domain.specs.Calls.{waits_in}
-use Rattle.lk_domain.specs.RwRows.{joins_at}
-use Rattle.lk_domain.specs.Seats.{calls_of}
+use Rattle.lk_run.proofs.Names.{Reads, Y2, Y3, TryRead, waits_in, joins_at, calls_of}
 use Rattle.lk_run.proofs.RwPlaces.{is_open_by, is_shut_by}
 use Rattle.lk_run.proofs.RwRows as row
 use Rattle.lk_run.proofs.RwTries as try

@@ -1,7 +1,5 @@
 use Rattle.std.proofs.Common.{refl}
-use Rattle.lk_rows.specs.declared.parts.Pc.TheVariants.{Y3}
-use Rattle.lk_rows.specs.declared.setup.Verb.TheVariants.{TryRead}
-use Rattle.lk_domain.specs.RwRows.{quits_by}
+use Rattle.lk_run.proofs.Names.{Y3, TryRead, quits_by}
 use Rattle.lk_run.proofs.RwRows as row
 use Rattle.lk_run.proofs.RwTries as try
 use Rattle.lk_run.proofs.reading.try_fail.Goals as goal

@@ -1,8 +1,5 @@
 use Rattle.std.proofs.Common.{refl, eqb, inr, length, sym, ◌∙◌}
-use Rattle.lk_rows.specs.declared.parts.Pc.TheVariants.{Y2}
-use Rattle.lk_rows.specs.declared.setup.Verb.TheVariants.{TryRead}
-use Rattle.lk_domain.specs.RwRows.{watches_at}
-use Rattle.lk_domain.specs.Seats.{calls_of}
+use Rattle.lk_run.proofs.Names.{Y2, TryRead, watches_at, calls_of}
 use Rattle.lk_run.proofs.RwPlaces.{is_open_by, is_shut_by}
 use Rattle.lk_run.proofs.RwRows as row
 use Rattle.lk_run.proofs.RwSteps as rw

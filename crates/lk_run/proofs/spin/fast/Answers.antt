@@ -1,10 +1,8 @@
 use Rattle.std.proofs.Common.{refl}
-use Rattle.lk_rows.specs.declared.setup.Verb.TheVariants.{Lock}
-use Rattle.lk_domain.specs.Rows.{takes_by}
-use Rattle.lk_domain.specs.Seats.{view_of}
+use Rattle.lk_run.proofs.Names.{Lock, takes_by, view_of}
+use Rattle.lk_run.proofs.Steps.{plain_in, seat_of}
 use Rattle.lk_domain.proofs.Ways as seat
 use Rattle.lk_run.proofs.Fast as fast
-use Rattle.lk_run.proofs.Steps.{plain_in, seat_of}
 use Rattle.lk_run.proofs.spin.fast.Goals as goal
 
 pub take_first-requires-clause-row : goal.take_first-requires-clause-row

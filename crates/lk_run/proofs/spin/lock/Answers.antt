@@ -1,5 +1,5 @@
 use Rattle.std.proofs.Common.{refl}
-use Rattle.lk_run.specs.Phases.{starting}
+use Rattle.lk_run.proofs.Names.{starting}
 use Rattle.lk_run.proofs.Steps.{still_of, rest_both}
 use Rattle.lk_run.proofs.spin.lock.Goals as goal
 

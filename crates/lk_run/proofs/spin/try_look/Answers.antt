@@ -1,9 +1,8 @@
 use Rattle.std.proofs.Common.{inl}
+use Rattle.lk_run.proofs.Names.{Try, calls_of}
 use Rattle.lk_rows.specs.declared.parts.Pc.TheVariants.{T2}
-use Rattle.lk_rows.specs.declared.setup.Verb.TheVariants.{Try}
-use Rattle.lk_domain.specs.Seats.{calls_of}
-use Rattle.lk_domain.proofs.Ways as way
 use Rattle.lk_run.proofs.Steps.{tries, seat_of, moved, missed}
+use Rattle.lk_domain.proofs.Ways as way
 use Rattle.lk_run.proofs.spin.try_look.Goals as goal
 
 pub look-requires-clause-row : goal.look-requires-clause-row

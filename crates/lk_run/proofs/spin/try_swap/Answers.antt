@@ -1,11 +1,8 @@
-use Rattle.std.specs.Prelude.{false}
-use Rattle.std.proofs.Common.{refl}
+use Rattle.std.proofs.Common.{false, refl}
+use Rattle.lk_run.proofs.Names.{Try, takes_by, view_of}
 use Rattle.lk_rows.specs.declared.parts.Pc.TheVariants.{T2}
-use Rattle.lk_rows.specs.declared.setup.Verb.TheVariants.{Try}
-use Rattle.lk_domain.specs.Rows.{takes_by}
-use Rattle.lk_domain.specs.Seats.{view_of}
-use Rattle.lk_domain.proofs.Ways as way
 use Rattle.lk_run.proofs.Steps.{plain_in, seat_of, took, missed}
+use Rattle.lk_domain.proofs.Ways as way
 use Rattle.lk_run.proofs.spin.try_swap.Goals as goal
 
 pub take_free-requires-clause-row : goal.take_free-requires-clause-row

@@ -1,11 +1,8 @@
-use Rattle.std.proofs.Common.{refl}
-use Rattle.lk_domain.specs.Rows.{frees_by}
+use Rattle.std.proofs.Common.{refl, false}
+use Rattle.lk_run.proofs.Names.{apart_of, frees_by, view_of}
 use Rattle.lk_rows.specs.declared.setup.Verb.TheVariants.{Unlock}
-use Rattle.std.specs.Prelude.{false}
-use Rattle.lk_domain.specs.Seats.{view_of}
-use Rattle.lk_domain.proofs.Seating.{apart_of}
-use Rattle.lk_domain.proofs.Ways as way
 use Rattle.lk_run.proofs.Steps.{plain_in, seat_of}
+use Rattle.lk_domain.proofs.Ways as way
 use Rattle.lk_run.proofs.spin.unlock.Goals as goal
 
 pub release-requires-clause-row : goal.release-requires-clause-row

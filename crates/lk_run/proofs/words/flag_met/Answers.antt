@@ -1,7 +1,5 @@
 use Rattle.std.proofs.Common.{sym, ap, ◌∙◌, arith}
-use Rattle.lk_word.specs.declared.spin_word.NodeName.{NodeName}
-use Rattle.lk_rows.specs.declared.parts.Flag.{Flag}
-use Rattle.lk_rows.specs.declared.parts.Flag.TheVariants.{Second}
+use Rattle.lk_run.proofs.Names.{NodeName, Flag, Second}
 use Rattle.lk_run.proofs.Places.{unset_flag, go_flag, second_flag, small_flag}
 use Rattle.lk_run.proofs.words.flag_met.Goals as goal
 

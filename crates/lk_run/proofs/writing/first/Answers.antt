@@ -1,9 +1,6 @@
 use Rattle.std.proofs.Common.{ap, refl}
+use Rattle.lk_run.proofs.Names.{Write, waits_in, seizes_at, calls_of}
 use Rattle.lk_rows.specs.declared.parts.Pc.TheVariants.{Wr1}
-use Rattle.lk_rows.specs.declared.setup.Verb.TheVariants.{Write}
-use Rattle.lk_domain.specs.Calls.{waits_in}
-use Rattle.lk_domain.specs.RwRows.{seizes_at}
-use Rattle.lk_domain.specs.Seats.{calls_of}
 use Rattle.lk_run.proofs.RwFast as fast
 use Rattle.lk_run.proofs.RwSteps as rw
 use Rattle.lk_run.proofs.writing.first.Goals as goal

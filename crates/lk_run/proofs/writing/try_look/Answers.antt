@@ -1,8 +1,5 @@
 use Rattle.std.proofs.Common.{refl, eqb, inr, length}
-use Rattle.lk_rows.specs.declared.parts.Pc.TheVariants.{Y5}
-use Rattle.lk_rows.specs.declared.setup.Verb.TheVariants.{TryWrite}
-use Rattle.lk_domain.specs.RwRows.{watches_at}
-use Rattle.lk_domain.specs.Seats.{calls_of}
+use Rattle.lk_run.proofs.Names.{Y5, TryWrite, watches_at, calls_of}
 use Rattle.lk_run.proofs.RwPlaces.{empty_by, full_by}
 use Rattle.lk_run.proofs.RwRows as row
 use Rattle.lk_run.proofs.RwSteps as rw

@@ -1,9 +1,4 @@
-use Rattle.lk_names.specs.declared.holder.Manner.TheVariants.{Writes}
-use Rattle.lk_rows.specs.declared.parts.Pc.TheVariants.{Y5}
-use Rattle.lk_rows.specs.declared.setup.Verb.TheVariants.{TryWrite}
-use Rattle.lk_domain.specs.Calls.{waits_in}
-use Rattle.lk_domain.specs.RwRows.{seizes_at}
-use Rattle.lk_domain.specs.Seats.{calls_of}
+use Rattle.lk_run.proofs.Names.{Writes, Y5, TryWrite, waits_in, seizes_at, calls_of}
 use Rattle.lk_run.proofs.RwPlaces.{empty_by, full_by}
 use Rattle.lk_run.proofs.RwRows as row
 use Rattle.lk_run.proofs.RwTries as try

@@ -1,6 +1,5 @@
+use Rattle.lk_run.proofs.Names.{Path, WritePlace}
 use Rattle.lk_run.specs.PolledWrite.{Began, Fits, Owes}
-use Rattle.lk_run.specs.Turns.{Path}
-use Rattle.lk_run.specs.declared.write_waiter.WritePlace.{WritePlace}
 use Rattle.lk_run.proofs.writing.write_slowpath.Given as goal
 
 abbrev pub invariant-loop : goal.invariant-loop

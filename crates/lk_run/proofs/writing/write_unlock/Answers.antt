@@ -1,11 +1,10 @@
 use Rattle.std.proofs.Common.{refl}
+use Rattle.lk_run.proofs.Names.{apart_of, view_of}
 use Rattle.lk_rows.specs.declared.setup.Verb.TheVariants.{WUnlock}
-use Rattle.lk_domain.specs.RwRows.{leaves_by}
-use Rattle.lk_domain.specs.Seats.{view_of}
-use Rattle.lk_domain.proofs.Seating.{apart_of}
 use Rattle.lk_domain.proofs.rw.Released.{writer, acts_leaving}
-use Rattle.lk_run.proofs.RwTries as try
+use Rattle.lk_domain.specs.RwRows.{leaves_by}
 use Rattle.lk_run.proofs.Steps.{seat_of}
+use Rattle.lk_run.proofs.RwTries as try
 use Rattle.lk_run.proofs.writing.write_unlock.Goals as goal
 
 pub writer_release-requires-clause-row : goal.writer_release-requires-clause-row

@@ -1,6 +1,5 @@
-use Rattle.lk_domain.specs.Paths.{Any}
+use Rattle.lk_run.proofs.Names.{G1, Any}
 use Rattle.lk_domain.specs.Rows.{clears_by}
-use Rattle.lk_rows.specs.declared.parts.Pc.TheVariants.{G1}
 use Rattle.lk_run.proofs.Rows as row
 use Rattle.lk_run.proofs.Calling as on
 use Rattle.lk_run.proofs.call.Call.clear_pending.Goals as goal

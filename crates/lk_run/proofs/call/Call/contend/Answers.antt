@@ -1,7 +1,6 @@
-use Rattle.lk_rows.specs.declared.parts.Pc.TheVariants.{G1, P0, P1, V1}
-use Rattle.lk_rows.specs.rows.Spin.{after_fast}
-use Rattle.lk_run.proofs.Places.{fast_place, last_of_four}
 use Rattle.std.proofs.Common.{subst, sym, ◌∙◌, ◌≡◌, ◌⊎◌}
+use Rattle.lk_run.proofs.Names.{G1, P0, P1, V1, after_fast}
+use Rattle.lk_run.proofs.Places.{fast_place, last_of_four}
 use Rattle.lk_run.proofs.Calling as on
 use Rattle.lk_run.proofs.call.Call.contend.Goals as goal
 

@@ -1,8 +1,5 @@
+use Rattle.lk_run.proofs.Names.{N1, Number, Any, calls_of}
 use Rattle.lk_domain.specs.Calls.{slows}
-use Rattle.lk_domain.specs.Paths.{Any}
-use Rattle.lk_domain.specs.Seats.{calls_of}
-use Rattle.lk_law.specs.Leads.{Number}
-use Rattle.lk_rows.specs.declared.parts.Pc.TheVariants.{N1}
 use Rattle.lk_run.proofs.Rows as row
 use Rattle.lk_run.proofs.Calling as on
 use Rattle.lk_run.proofs.call.Call.enter_bare.Goals as goal

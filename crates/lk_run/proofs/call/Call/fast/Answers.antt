@@ -1,7 +1,6 @@
-use Rattle.lk_domain.specs.Paths.{Any}
-use Rattle.lk_rows.specs.rows.Spin.{after_fast}
-use Rattle.lk_run.proofs.Places.{free_by, held_by, met_by, not_fast}
 use Rattle.std.proofs.Common.{refl}
+use Rattle.lk_run.proofs.Names.{after_fast, Any}
+use Rattle.lk_run.proofs.Places.{free_by, held_by, met_by, not_fast}
 use Rattle.lk_run.proofs.Rows as row
 use Rattle.lk_run.proofs.Calling as on
 use Rattle.lk_run.proofs.call.Call.fast.Goals as goal

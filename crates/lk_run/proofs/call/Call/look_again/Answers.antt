@@ -1,9 +1,6 @@
-use Rattle.lk_domain.specs.Paths.{Any}
-use Rattle.lk_rows.specs.declared.parts.Pc.TheVariants.{G1, P0, P1}
-use Rattle.lk_rows.specs.rows.Spin.{to_queue}
-use Rattle.lk_run.proofs.Places.{met_by, queue_else, queue_place}
-use Rattle.lk_run.specs.Words.{Steps}
 use Rattle.std.proofs.Common.{ap, inl, refl, subst, sym, ◌∙◌, ◌≡◌, ◌⊎◌}
+use Rattle.lk_run.proofs.Names.{G1, P0, P1, to_queue, Any, Steps}
+use Rattle.lk_run.proofs.Places.{met_by, queue_else, queue_place}
 use Rattle.lk_run.proofs.Rows as row
 use Rattle.lk_run.proofs.Calling as on
 use Rattle.lk_run.proofs.call.Call.look_again.Goals as goal

@@ -1,6 +1,6 @@
-use Rattle.lk_domain.specs.Paths.{Any}
-use Rattle.lk_rows.specs.declared.parts.Pc.TheVariants.{V2}
 use Rattle.std.proofs.Common.{inl, refl}
+use Rattle.lk_run.proofs.Names.{Any}
+use Rattle.lk_rows.specs.declared.parts.Pc.TheVariants.{V2}
 use Rattle.lk_run.proofs.Rows as row
 use Rattle.lk_run.proofs.Calling as on
 use Rattle.lk_domain.proofs.Ways as seat

@@ -1,6 +1,5 @@
-use Rattle.lk_domain.specs.Paths.{Any}
-use Rattle.lk_rows.specs.declared.parts.Pc.TheVariants.{V1}
 use Rattle.std.proofs.Common.{refl}
+use Rattle.lk_run.proofs.Names.{V1, Any}
 use Rattle.lk_run.proofs.Rows as row
 use Rattle.lk_run.proofs.Calling as on
 use Rattle.lk_domain.proofs.Ways as seat

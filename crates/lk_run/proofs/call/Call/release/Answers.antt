@@ -1,10 +1,5 @@
-use Rattle.lk_names.specs.declared.names.LockName.{LockName}
-use Rattle.lk_domain.specs.Calls.{told}
-use Rattle.lk_domain.specs.Plays.{ActsIn}
-use Rattle.lk_domain.specs.Rows.{frees_by}
-use Rattle.lk_domain.specs.Seats.{view_of}
-use Rattle.lk_rows.specs.Moves.{wait_name}
 use Rattle.std.proofs.Common.{subst, sym, ◌≡◌}
+use Rattle.lk_run.proofs.Names.{LockName, wait_name, told, ActsIn, frees_by, view_of}
 use Rattle.lk_run.proofs.RwSteps as rw
 use Rattle.lk_run.proofs.RwRows as rwrow
 use Rattle.lk_run.proofs.call.Call.release.Goals as goal

@@ -1,10 +1,7 @@
-use Rattle.lk_domain.specs.Paths.{Any}
-use Rattle.lk_domain.specs.Rows.{pends_by}
-use Rattle.lk_rows.specs.declared.parts.Pc.TheVariants.{G1, P1, P2, P3, P4}
-use Rattle.lk_rows.specs.rows.Spin.{after_pending}
-use Rattle.lk_run.proofs.Places.{met_by, pend_else, pend_place}
-use Rattle.lk_run.specs.Words.{Steps}
 use Rattle.std.proofs.Common.{ap, subst, sym, ◌∙◌, ◌≡◌, ◌⊎◌}
+use Rattle.lk_run.proofs.Names.{G1, P1, P2, P3, P4, after_pending, Any, Steps}
+use Rattle.lk_domain.specs.Rows.{pends_by}
+use Rattle.lk_run.proofs.Places.{met_by, pend_else, pend_place}
 use Rattle.lk_run.proofs.Rows as row
 use Rattle.lk_run.proofs.Calling as on
 use Rattle.lk_run.proofs.call.Call.set_pending.Goals as goal

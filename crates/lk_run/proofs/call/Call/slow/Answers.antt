@@ -1,5 +1,5 @@
-use Rattle.lk_domain.specs.Plans.{cpus_of}
 use Rattle.std.proofs.Common.{arith, subst, sym, ◌<◌}
+use Rattle.lk_domain.specs.Plans.{cpus_of}
 use Rattle.lk_run.proofs.Calling as on
 use Rattle.lk_run.proofs.Turning as turn
 use Rattle.lk_run.proofs.call.Call.slow.Goals as goal

@@ -1,5 +1,5 @@
-use Rattle.lk_domain.specs.Rows.{claims_by}
 use Rattle.std.proofs.Common.{refl}
+use Rattle.lk_domain.specs.Rows.{claims_by}
 use Rattle.lk_run.proofs.Rows as row
 use Rattle.lk_run.proofs.Calling as on
 use Rattle.lk_run.proofs.call.Call.take_pending.Goals as goal

@@ -1,6 +1,5 @@
+use Rattle.lk_run.proofs.Names.{Path, Rest}
 use Rattle.lk_run.specs.Resting.{Arrived, Fits, Owes}
-use Rattle.lk_run.specs.Turns.{Path}
-use Rattle.lk_run.specs.declared.rest.Rest.{Rest}
 use Rattle.lk_run.proofs.call.Call.wait_on.Given as goal
 
 abbrev pub invariant-loop : goal.invariant-loop

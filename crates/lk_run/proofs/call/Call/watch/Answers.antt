@@ -1,9 +1,6 @@
-use Rattle.lk_domain.specs.Paths.{Any}
-use Rattle.lk_rows.specs.declared.parts.Pc.TheVariants.{P4}
-use Rattle.lk_rows.specs.rows.Spin.{is_unlocked}
-use Rattle.lk_run.proofs.Places.{met_by}
-use Rattle.lk_word.specs.declared.spin_word.Fields.{Fields}
 use Rattle.std.proofs.Common.{ap, inl, refl, sym, ◌∙◌}
+use Rattle.lk_run.proofs.Names.{Fields, P4, is_unlocked, Any}
+use Rattle.lk_run.proofs.Places.{met_by}
 use Rattle.lk_run.proofs.Rows as row
 use Rattle.lk_run.proofs.Calling as on
 use Rattle.lk_run.proofs.call.Call.watch.Goals as goal

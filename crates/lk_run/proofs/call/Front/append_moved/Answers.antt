@@ -1,9 +1,5 @@
-use Rattle.lk_domain.specs.Calls.{Running, told}
-use Rattle.lk_law.specs.Leads.{Linked}
-use Rattle.lk_rows.specs.declared.parts.Pc.TheVariants.{C4, C5}
-use Rattle.lk_run.specs.Frames.{Parts}
-use Rattle.lk_run.specs.Phases.{newest}
 use Rattle.std.proofs.Common.{List, ap, refl, sym, ◌∙◌}
+use Rattle.lk_run.proofs.Names.{C4, C5, Linked, Running, told, Parts, newest}
 use Rattle.lk_run.proofs.ChoiceRows as choice
 use Rattle.lk_run.proofs.Calling as on
 use Rattle.lk_run.proofs.call.Front.append_moved.Goals as goal

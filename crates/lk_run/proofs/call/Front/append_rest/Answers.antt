@@ -1,9 +1,5 @@
-use Rattle.lk_domain.specs.Calls.{Running, told}
-use Rattle.lk_law.specs.Leads.{Linked}
-use Rattle.lk_rows.specs.declared.parts.Pc.TheVariants.{C7, C9}
-use Rattle.lk_run.specs.Frames.{Precedes}
-use Rattle.lk_run.specs.Phases.{newest}
 use Rattle.std.proofs.Common.{List, None, ap, refl, sym, ◌∙◌}
+use Rattle.lk_run.proofs.Names.{C7, C9, Linked, Running, told, Precedes, newest}
 use Rattle.lk_run.proofs.ChoiceRows as choice
 use Rattle.lk_run.proofs.Calling as on
 use Rattle.lk_run.proofs.call.Front.append_rest.Goals as goal

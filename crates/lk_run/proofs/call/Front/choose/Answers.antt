@@ -1,10 +1,5 @@
-use Rattle.lk_domain.specs.Words.{IsNode}
-use Rattle.lk_rows.specs.declared.parts.Pc.TheVariants.{C1, C3}
-use Rattle.lk_run.specs.Choices.{IsFirstNode}
-use Rattle.lk_run.specs.Frames.{Fronts, Promotes}
-use Rattle.lk_run.specs.Words.{Steps}
-use Rattle.lk_word.specs.declared.spin_word.NodeName.{NodeName}
 use Rattle.std.proofs.Common.{Option, subst, sym}
+use Rattle.lk_run.proofs.Names.{NodeName, C1, C3, IsNode, IsFirstNode, Fronts, Promotes, Steps}
 use Rattle.lk_run.specs.declared.rest.Rest.TheVariants as rest
 use Rattle.lk_run.proofs.Calling as on
 use Rattle.lk_run.proofs.Turning as turn

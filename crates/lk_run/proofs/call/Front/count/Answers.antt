@@ -1,13 +1,6 @@
-use Rattle.lk_domain.specs.NodePlays.{counting}
-use Rattle.lk_domain.specs.Seats.{view_of}
-use Rattle.lk_domain.specs.declared.plan.Plan.{Plan}
-use Rattle.lk_domain.specs.declared.view.View.{View}
-use Rattle.lk_law.specs.Leads.{Number}
-use Rattle.lk_rows.specs.declared.parts.Pc.TheVariants.{C7, C8}
+use Rattle.std.proofs.Common.{ap, arith, false, refl, sym, true, ◌∙◌, ◌≡◌, is_some, not}
+use Rattle.lk_run.proofs.Names.{C7, C8, Number, counting, view_of, Plan, View, Precedes}
 use Rattle.lk_run.proofs.Steps.{still_of}
-use Rattle.lk_run.specs.Frames.{Precedes}
-use Rattle.std.proofs.Common.{ap, arith, false, refl, sym, true, ◌∙◌, ◌≡◌}
-use Rattle.std.specs.Prelude.{is_some, not}
 use Rattle.lk_run.proofs.ChoiceRows as choice
 use Rattle.lk_run.proofs.Calling as on
 use Rattle.lk_run.proofs.call.Front.count.Goals as goal

@@ -1,6 +1,5 @@
-use Rattle.lk_law.specs.Leads.{Linked}
+use Rattle.lk_run.proofs.Names.{Linked, Parts}
 use Rattle.lk_rows.specs.declared.parts.Pc.TheVariants.{C6}
-use Rattle.lk_run.specs.Frames.{Parts}
 use Rattle.lk_run.proofs.ChoiceRows as choice
 use Rattle.lk_run.proofs.Calling as on
 use Rattle.lk_run.proofs.call.Front.cut.Goals as goal

@@ -1,17 +1,9 @@
-use Rattle.lk_domain.specs.Plays.{rowed}
-use Rattle.lk_domain.specs.Seats.{calls_of, view_of}
-use Rattle.lk_domain.specs.Standing.{Outside}
-use Rattle.lk_domain.specs.Words.{IsNode}
-use Rattle.lk_domain.specs.declared.plan.Plan.{Plan}
-use Rattle.lk_law.specs.Leads.{Named}
-use Rattle.lk_rows.specs.declared.parts.Frame.{Frame}
-use Rattle.lk_rows.specs.declared.parts.Pc.{Pc}
-use Rattle.lk_rows.specs.declared.parts.Pc.TheVariants.{C10, C3, C4, C9}
-use Rattle.lk_rows.specs.rows.Cna.{after_tail}
+use Rattle.std.proofs.Common.{Some, refl, subst, sym, ◌∙◌, ◌≡◌}
+use Rattle.lk_run.proofs.Names.{NodeName, Frame, Pc, C3, C4, C9, Named, rowed, calls_of, view_of}
+use Rattle.lk_run.proofs.Names.{Outside, IsNode, Plan}
+use Rattle.lk_rows.specs.{declared.parts.Pc.TheVariants.C10, rows.Cna.after_tail}
 use Rattle.lk_run.proofs.Ways.{Leads, sees}
 use Rattle.lk_run.specs.Frames.{Promoting, Returns, Ties}
-use Rattle.lk_word.specs.declared.spin_word.NodeName.{NodeName}
-use Rattle.std.proofs.Common.{Some, refl, subst, sym, ◌∙◌, ◌≡◌}
 use Rattle.lk_run.proofs.ChoiceRows as choice
 use Rattle.lk_run.proofs.Calling as on
 use Rattle.lk_run.proofs.Stepped as way

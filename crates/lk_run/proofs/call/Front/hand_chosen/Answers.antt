@@ -1,9 +1,6 @@
-use Rattle.lk_domain.specs.NodePlays.{IsFlagNode}
-use Rattle.lk_law.specs.Leads.{Flagged}
-use Rattle.lk_rows.specs.declared.parts.Flag.TheVariants.{Unset}
-use Rattle.lk_rows.specs.declared.parts.Pc.TheVariants.{C8}
-use Rattle.lk_rows.specs.rows.Cna.{flag_for}
 use Rattle.std.proofs.Common.{ap, refl, subst, sym, ◌∙◌}
+use Rattle.lk_run.proofs.Names.{Unset, C8, Flagged, IsFlagNode}
+use Rattle.lk_rows.specs.rows.Cna.{flag_for}
 use Rattle.lk_run.proofs.ChoiceRows as choice
 use Rattle.lk_run.proofs.Calling as on
 use Rattle.lk_run.proofs.call.Front.hand_chosen.Goals as goal

@@ -1,7 +1,5 @@
-use Rattle.lk_law.specs.Leads.{Flagged}
-use Rattle.lk_rows.specs.declared.parts.Flag.TheVariants.{Unset}
-use Rattle.lk_rows.specs.declared.parts.Pc.TheVariants.{G11}
 use Rattle.std.proofs.Common.{refl}
+use Rattle.lk_run.proofs.Names.{Unset, G11, Flagged}
 use Rattle.lk_run.proofs.Rows as row
 use Rattle.lk_run.proofs.Calling as on
 use Rattle.lk_run.proofs.call.Front.hand_on.Goals as goal

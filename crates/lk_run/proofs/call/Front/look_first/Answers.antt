@@ -1,23 +1,10 @@
-use Rattle.lk_domain.specs.Calls.{sight_by, sight_of, terms_of, told, told_by}
-use Rattle.lk_domain.specs.NodePlays.{counting}
-use Rattle.lk_domain.specs.Plays.{rowed}
-use Rattle.lk_domain.specs.Seats.{IsOf, calls_of, view_of}
-use Rattle.lk_domain.specs.Standing.{Outside}
-use Rattle.lk_domain.specs.Words.{IsNode, link_number, marked}
-use Rattle.lk_domain.specs.declared.plan.Plan.{Plan}
-use Rattle.lk_domain.specs.declared.view.View.{View}
-use Rattle.lk_law.specs.Leads.{Linked}
-use Rattle.lk_rows.specs.declared.parts.Pc.TheVariants.{C1, C2, C3, C7}
-use Rattle.lk_run.proofs.Places.{name_low}
-use Rattle.lk_run.proofs.Steps.{still_of}
-use Rattle.lk_run.proofs.Ways.{sees}
-use Rattle.lk_rows.specs.Searching.{first_by}
-use Rattle.lk_run.specs.Choices.{IsFirstNode}
-use Rattle.lk_run.specs.Frames.{Flushes, Fronts, Precedes, Promotes, Skips}
-use Rattle.lk_run.specs.Phases.{newest}
-use Rattle.lk_word.specs.declared.spin_word.NodeName.{NodeName}
-use Rattle.std.proofs.Common.{IfSome, Some, ap, refl, subst, sym, ◌∙◌, ◌≡◌}
-use Rattle.std.specs.Prelude.{is_some}
+use Rattle.std.proofs.Common.{IfSome, Some, ap, refl, subst, sym, ◌∙◌, ◌≡◌, is_some}
+use Rattle.lk_run.proofs.Names.{NodeName, first_by, C1, C2, C3, C7, Linked, sight_by, sight_of}
+use Rattle.lk_run.proofs.Names.{terms_of, told, counting, rowed, IsOf, calls_of, view_of, Outside}
+use Rattle.lk_run.proofs.Names.{IsNode, Plan, View, IsFirstNode, Flushes, Fronts, Precedes}
+use Rattle.lk_run.proofs.Names.{Promotes, Skips, newest}
+use Rattle.lk_domain.specs.{Calls.told_by, Words.{link_number, marked}}
+use Rattle.lk_run.proofs.{Places.name_low, Steps.still_of, Ways.sees}
 use Rattle.lk_run.proofs.ChoiceRows as choice
 use Rattle.lk_run.proofs.Calling as on
 use Rattle.lk_run.proofs.Stepped as way

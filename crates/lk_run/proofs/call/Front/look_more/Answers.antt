@@ -1,16 +1,10 @@
-use Rattle.lk_domain.specs.Calls.{sight_by, sight_of, terms_of}
-use Rattle.lk_domain.specs.Seats.{calls_of}
-use Rattle.lk_domain.specs.Standing.{Outside}
-use Rattle.lk_domain.specs.Words.{IsNode, link_number, marked}
-use Rattle.lk_domain.specs.declared.plan.Plan.{Plan}
-use Rattle.lk_law.specs.Leads.{Linked}
-use Rattle.lk_rows.specs.declared.parts.Pc.TheVariants.{C2, C3, C5, C7}
-use Rattle.lk_run.proofs.Places.{name_low}
-use Rattle.lk_run.proofs.Ways.{sees}
-use Rattle.lk_rows.specs.Searching.{more_by}
-use Rattle.lk_run.specs.Choices.{IsMoreNode}
-use Rattle.lk_run.specs.Frames.{Appends, Flushes, Parts, Precedes, Skips}
 use Rattle.std.proofs.Common.{IfSome, Some, ap, subst, sym, ◌∙◌, ◌≡◌}
+use Rattle.lk_run.proofs.Names.{more_by, C2, C3, C5, C7, Linked, sight_by, sight_of, terms_of}
+use Rattle.lk_run.proofs.Names.{calls_of, Outside, IsNode, Plan, IsMoreNode, Flushes, Parts}
+use Rattle.lk_run.proofs.Names.{Precedes, Skips}
+use Rattle.lk_domain.specs.Words.{link_number, marked}
+use Rattle.lk_run.proofs.{Places.name_low, Ways.sees}
+use Rattle.lk_run.specs.Frames.{Appends}
 use Rattle.lk_run.proofs.ChoiceRows as choice
 use Rattle.lk_run.proofs.Calling as on
 use Rattle.lk_run.proofs.Stepped as way

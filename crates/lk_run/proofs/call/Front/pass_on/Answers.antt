@@ -1,8 +1,5 @@
-use Rattle.lk_domain.specs.Words.{IsNode}
-use Rattle.lk_rows.specs.declared.parts.Pc.TheVariants.{G10, G11}
-use Rattle.lk_run.specs.Frames.{Fronts, Precedes}
-use Rattle.lk_run.specs.Words.{Steps}
 use Rattle.std.proofs.Common.{IfSome, subst}
+use Rattle.lk_run.proofs.Names.{G10, G11, IsNode, Fronts, Precedes, Steps}
 use Rattle.lk_run.specs.declared.rest.Rest.TheVariants as rest
 use Rattle.lk_run.proofs.Calling as on
 use Rattle.lk_run.proofs.Turning as turn

@@ -1,6 +1,5 @@
-use Rattle.lk_domain.specs.Words.{IsNode}
-use Rattle.lk_run.specs.Choices.{IsMoreNode}
 use Rattle.std.proofs.Common.{subst}
+use Rattle.lk_run.proofs.Names.{IsNode, IsMoreNode}
 use Rattle.lk_run.specs.declared.rest.Rest.TheVariants as rest
 use Rattle.lk_run.proofs.Calling as on
 use Rattle.lk_run.proofs.Turning as turn

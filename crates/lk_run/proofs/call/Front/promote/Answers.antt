@@ -1,19 +1,10 @@
-use Rattle.lk_domain.specs.NodePlays.{AtPromotion}
-use Rattle.lk_domain.specs.Rows.{promotes_by}
-use Rattle.lk_domain.specs.Seats.{view_of}
-use Rattle.lk_domain.specs.declared.cpu.Cpu.{Cpu}
-use Rattle.lk_law.specs.Leads.{Word}
-use Rattle.lk_rows.specs.Moves.{is_node}
-use Rattle.lk_rows.specs.declared.parts.Pc.TheVariants.{C1, C7}
+use Rattle.std.proofs.Common.{None, Some, ap, sym, ◌∙◌, not, ◌&&◌}
+use Rattle.lk_run.proofs.Names.{Fields, NodeName, is_node, C1, C7, Word, view_of, Cpu, Fronts}
+use Rattle.lk_run.proofs.Names.{Precedes}
 use Rattle.lk_rows.specs.rows.Cna.{is_held}
+use Rattle.lk_domain.specs.{NodePlays.AtPromotion, Rows.promotes_by}
 use Rattle.lk_run.proofs.Places.{met_by}
-use Rattle.lk_run.specs.Choosing.{MayPromote}
-use Rattle.lk_run.specs.Frames.{Fronts, Precedes}
-use Rattle.lk_run.specs.declared.call.Front.{Front}
-use Rattle.lk_word.specs.declared.spin_word.Fields.{Fields}
-use Rattle.lk_word.specs.declared.spin_word.NodeName.{NodeName}
-use Rattle.std.proofs.Common.{None, Some, ap, sym, ◌∙◌}
-use Rattle.std.specs.Prelude.{not, ◌&&◌}
+use Rattle.lk_run.specs.{Choosing.MayPromote, declared.call.Front.Front}
 use Rattle.lk_run.proofs.ChoiceRows as choice
 use Rattle.lk_run.proofs.Calling as on
 use Rattle.lk_run.proofs.call.Front.promote.Goals as goal

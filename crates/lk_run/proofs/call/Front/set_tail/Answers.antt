@@ -1,7 +1,5 @@
-use Rattle.lk_law.specs.Leads.{Named}
-use Rattle.lk_rows.specs.declared.parts.Pc.TheVariants.{C7}
-use Rattle.lk_run.specs.Frames.{Precedes}
 use Rattle.std.proofs.Common.{Some}
+use Rattle.lk_run.proofs.Names.{C7, Named, Precedes}
 use Rattle.lk_run.proofs.ChoiceRows as choice
 use Rattle.lk_run.proofs.Calling as on
 use Rattle.lk_run.proofs.call.Front.set_tail.Goals as goal

@@ -1,5 +1,5 @@
-use Rattle.lk_law.specs.Cna.{moves_aside}
 use Rattle.std.proofs.Common.{ap, sym, ◌∙◌}
+use Rattle.lk_run.proofs.Names.{moves_aside}
 use Rattle.lk_run.proofs.Calling as on
 use Rattle.lk_run.proofs.Turning as turn
 use Rattle.lk_run.proofs.call.Front.stake.Goals as goal

@@ -1,6 +1,5 @@
+use Rattle.lk_run.proofs.Names.{C1, G10, Fronts}
 use Rattle.lk_domain.specs.Rows.{stakes_by}
-use Rattle.lk_rows.specs.declared.parts.Pc.TheVariants.{C1, G10}
-use Rattle.lk_run.specs.Frames.{Fronts}
 use Rattle.lk_run.proofs.Rows as row
 use Rattle.lk_run.proofs.Calling as on
 use Rattle.lk_run.proofs.call.Front.take_head.Goals as goal

@@ -1,12 +1,7 @@
+use Rattle.std.proofs.Common.{ap, refl, sym, ◌∙◌, not, ◌&&◌}
+use Rattle.lk_run.proofs.Names.{Fields, is_node, G9, is_unlocked, Fronts}
 use Rattle.lk_domain.specs.Rows.{soles_by}
-use Rattle.lk_rows.specs.Moves.{is_node}
-use Rattle.lk_rows.specs.declared.parts.Pc.TheVariants.{G9}
-use Rattle.lk_rows.specs.rows.Spin.{is_unlocked}
 use Rattle.lk_run.proofs.Places.{met_by}
-use Rattle.lk_run.specs.Frames.{Fronts}
-use Rattle.lk_word.specs.declared.spin_word.Fields.{Fields}
-use Rattle.std.proofs.Common.{ap, refl, sym, ◌∙◌}
-use Rattle.std.specs.Prelude.{not, ◌&&◌}
 use Rattle.lk_run.proofs.Rows as row
 use Rattle.lk_run.proofs.Calling as on
 use Rattle.lk_run.proofs.call.Front.take_sole.Goals as goal

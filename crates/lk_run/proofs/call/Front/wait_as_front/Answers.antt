@@ -1,13 +1,6 @@
-use Rattle.lk_law.specs.Leads.{Word}
-use Rattle.lk_rows.specs.Moves.{is_node}
-use Rattle.lk_rows.specs.declared.parts.Pc.TheVariants.{G7, G8, G9}
-use Rattle.lk_rows.specs.rows.Spin.{is_unlocked}
-use Rattle.lk_run.proofs.Places.{front_place, met_by}
-use Rattle.lk_run.proofs.Ways.{Leads, sees}
-use Rattle.lk_run.specs.Frames.{Fronts}
-use Rattle.lk_word.specs.declared.spin_word.Fields.{Fields}
-use Rattle.std.proofs.Common.{ap, inl, refl, subst, sym, ◌∙◌, ◌≡◌, ◌⊎◌}
-use Rattle.std.specs.Prelude.{if◌then◌else◌, not, ◌&&◌}
+use Rattle.std.proofs.Common.{ap, inl, refl, subst, sym, ◌∙◌, ◌≡◌, ◌⊎◌, if◌then◌else◌, not, ◌&&◌}
+use Rattle.lk_run.proofs.Names.{Fields, is_node, G7, G8, G9, is_unlocked, Word, Fronts}
+use Rattle.lk_run.proofs.{Places.{front_place, met_by}, Ways.{Leads, sees}}
 use Rattle.lk_run.proofs.Rows as row
 use Rattle.lk_run.proofs.Calling as on
 use Rattle.lk_run.proofs.call.Front.wait_as_front.Goals as goal

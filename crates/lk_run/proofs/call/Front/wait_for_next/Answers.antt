@@ -1,11 +1,6 @@
-use Rattle.lk_domain.specs.Words.{IsNode}
-use Rattle.lk_domain.specs.declared.plan.Plan.{Plan}
-use Rattle.lk_law.specs.Leads.{Linked}
-use Rattle.lk_rows.specs.declared.parts.Pc.TheVariants.{G10, G11}
-use Rattle.lk_run.proofs.Places.{each_some}
-use Rattle.lk_run.specs.Frames.{Fronts, Precedes}
-use Rattle.lk_run.specs.Words.{Steps}
 use Rattle.std.proofs.Common.{IfSome, refl, subst, sym, ◌∙◌}
+use Rattle.lk_run.proofs.Names.{G10, G11, Linked, IsNode, Plan, Fronts, Precedes, Steps}
+use Rattle.lk_run.proofs.Places.{each_some}
 use Rattle.lk_run.proofs.Rows as row
 use Rattle.lk_run.proofs.Calling as on
 use Rattle.lk_run.proofs.call.Front.wait_for_next.Goals as goal

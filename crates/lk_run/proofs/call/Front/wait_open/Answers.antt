@@ -1,6 +1,6 @@
-use Rattle.lk_rows.specs.declared.parts.Pc.TheVariants.{G7, G8, G9}
-use Rattle.lk_run.proofs.Places.{first_of_three}
 use Rattle.std.proofs.Common.{sym, ◌∙◌, ◌≡◌}
+use Rattle.lk_run.proofs.Names.{G7, G8, G9}
+use Rattle.lk_run.proofs.Places.{first_of_three}
 use Rattle.lk_run.specs.declared.rest.Rest.TheVariants as rest
 use Rattle.lk_run.proofs.Calling as on
 use Rattle.lk_run.proofs.Turning as turn

@@ -1,10 +1,7 @@
-use Rattle.lk_domain.specs.NodePlays.{AtEntry, readies}
-use Rattle.lk_domain.specs.Seats.{view_of}
-use Rattle.lk_domain.specs.declared.view.View.{View}
-use Rattle.lk_law.specs.Cna.{moves_aside}
+use Rattle.std.proofs.Common.{ap, refl, subst, sym, ◌∙◌, ◌≡◌, not, ◌&&◌}
+use Rattle.lk_run.proofs.Names.{moves_aside, readies, view_of, View}
+use Rattle.lk_domain.specs.NodePlays.{AtEntry}
 use Rattle.lk_run.proofs.Steps.{rest_both, still_of}
-use Rattle.std.proofs.Common.{ap, refl, subst, sym, ◌∙◌, ◌≡◌}
-use Rattle.std.specs.Prelude.{not, ◌&&◌}
 use Rattle.lk_run.proofs.Calling as on
 use Rattle.lk_run.proofs.call.Queued.enter.Goals as goal
 

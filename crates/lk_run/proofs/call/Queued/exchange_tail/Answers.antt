@@ -1,15 +1,9 @@
-use Rattle.lk_domain.specs.NodePlays.{Arrives}
-use Rattle.lk_domain.specs.Rows.{arrives_by}
-use Rattle.lk_domain.specs.Seats.{view_of}
-use Rattle.lk_domain.specs.declared.cpu.Cpu.{Cpu}
-use Rattle.lk_rows.specs.declared.parts.Pc.TheVariants.{G4, G5, G7}
-use Rattle.lk_run.proofs.Places.{met_by}
-use Rattle.lk_run.specs.Frames.{Follows, Owns}
-use Rattle.lk_run.specs.Words.{At}
-use Rattle.lk_run.specs.declared.call.Queued.{Queued}
-use Rattle.lk_word.specs.declared.spin_word.NodeName.{NodeName}
-use Rattle.lk_word.specs.declared.spin_word.Fields.{Fields}
 use Rattle.std.proofs.Common.{Some, ap, sym, ◌∙◌, ◌≡◌}
+use Rattle.lk_run.proofs.Names.{Fields, NodeName, G4, G7, view_of, Cpu, Owns, At}
+use Rattle.lk_rows.specs.declared.parts.Pc.TheVariants.{G5}
+use Rattle.lk_domain.specs.{NodePlays.Arrives, Rows.arrives_by}
+use Rattle.lk_run.proofs.Places.{met_by}
+use Rattle.lk_run.specs.{Frames.Follows, declared.call.Queued.Queued}
 use Rattle.lk_run.proofs.Rows as row
 use Rattle.lk_run.proofs.Calling as on
 use Rattle.lk_run.proofs.call.Queued.exchange_tail.Goals as goal

@@ -1,4 +1,4 @@
-use Rattle.lk_domain.specs.Words.{IsNode}
+use Rattle.lk_run.proofs.Names.{IsNode}
 use Rattle.lk_run.proofs.Calling as on
 use Rattle.lk_run.proofs.call.Queued.lead.Goals as goal
 

@@ -1,10 +1,8 @@
-use Rattle.lk_domain.specs.Calls.{Running, is_inner}
-use Rattle.lk_domain.specs.Seats.{calls_of}
-use Rattle.lk_law.specs.Leads.{Named}
-use Rattle.lk_rows.specs.declared.parts.Pc.TheVariants.{G6}
-use Rattle.lk_run.specs.Frames.{Owns}
-use Rattle.std.proofs.Common.{List, None, ap, arith, inl, inr, le-ltb, length, lt-ltb, ltb, suc, sym, ℕ, ◌+◌, ◌∙◌, ◌≡◌}
+use Rattle.std.proofs.Common.{List, None, ap, arith, inl, inr, le-ltb, length, lt-ltb, ltb, suc}
+use Rattle.std.proofs.Common.{sym, ℕ, ◌+◌, ◌∙◌, ◌≡◌}
 use Rattle.std.proofs.lemmas.Bool.{cases_lt}
+use Rattle.lk_run.proofs.Names.{G6, Named, Running, calls_of, Owns}
+use Rattle.lk_domain.specs.Calls.{is_inner}
 use Rattle.lk_run.proofs.Rows as row
 use Rattle.lk_run.proofs.Calling as on
 use Rattle.lk_run.proofs.call.Queued.link.Goals as goal

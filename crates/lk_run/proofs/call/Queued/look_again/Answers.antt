@@ -1,7 +1,7 @@
-use Rattle.lk_rows.specs.declared.parts.Pc.TheVariants.{G3, G4}
-use Rattle.lk_run.proofs.Places.{free_by, held_by}
-use Rattle.lk_run.specs.Frames.{Owns}
 use Rattle.std.proofs.Common.{inl, refl}
+use Rattle.lk_run.proofs.Names.{G4, Owns}
+use Rattle.lk_rows.specs.declared.parts.Pc.TheVariants.{G3}
+use Rattle.lk_run.proofs.Places.{free_by, held_by}
 use Rattle.lk_run.proofs.Rows as row
 use Rattle.lk_run.proofs.Calling as on
 use Rattle.lk_run.proofs.call.Queued.look_again.Goals as goal

@@ -1,12 +1,9 @@
 use Rattle.std.proofs.Common.{◌∙◌, ◌≡◌, refl}
-use Rattle.lk_rows.specs.declared.parts.Pc.TheVariants.{G4}
-use Rattle.lk_domain.specs.Seats.{KeepsRest, view_of}
-use Rattle.lk_domain.specs.declared.cpu.Cpu.{Cpu}
-use Rattle.lk_run.specs.Nodes.{Owns, Steps}
-use Rattle.lk_run.specs.declared.call.Queued.{Queued}
+use Rattle.lk_run.proofs.Names.{G4, KeepsRest, view_of, Cpu}
+use Rattle.lk_run.proofs.Steps.{rest_both, rest_same}
+use Rattle.lk_run.specs.{Nodes.{Owns, Steps}, declared.call.Queued.Queued}
 use Rattle.lk_run.specs.declared.rest.Rest.TheVariants as rest
 use Rattle.lk_run.proofs.Calling as on
-use Rattle.lk_run.proofs.Steps.{rest_both, rest_same}
 use Rattle.lk_run.proofs.Turning as turn
 use Rattle.lk_run.proofs.call.Queued.queue.Goals as goal
 

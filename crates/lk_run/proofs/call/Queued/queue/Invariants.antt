@@ -1,5 +1,5 @@
-use Rattle.std.specs.Prelude.{◌≡◌}
-use Rattle.lk_domain.specs.Seats.{KeepsRest, view_of}
+use Rattle.std.proofs.Common.{◌≡◌}
+use Rattle.lk_run.proofs.Names.{KeepsRest, view_of}
 use Rattle.lk_run.proofs.call.Queued.queue.Given as goal
 
 -- the exchanges that failed changed nothing

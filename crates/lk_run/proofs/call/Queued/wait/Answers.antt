@@ -1,12 +1,6 @@
-use Rattle.lk_domain.specs.NodePlays.{IsFlagNode}
-use Rattle.lk_domain.specs.declared.plan.Plan.{Plan}
-use Rattle.lk_law.specs.Cna.{node_in}
-use Rattle.lk_law.specs.Leads.{Flagged}
-use Rattle.lk_rows.specs.declared.parts.Flag.{Flag}
-use Rattle.lk_rows.specs.declared.parts.Pc.TheVariants.{G6, G7}
-use Rattle.lk_run.proofs.Ways.{Leads, sees}
-use Rattle.lk_run.specs.Frames.{Fronts, Owns}
 use Rattle.std.proofs.Common.{refl, subst, sym, ◌∙◌}
+use Rattle.lk_run.proofs.Names.{Flag, G6, G7, node_in, Flagged, IsFlagNode, Plan, Fronts, Owns}
+use Rattle.lk_run.proofs.Ways.{Leads, sees}
 use Rattle.lk_run.proofs.Rows as row
 use Rattle.lk_run.proofs.Calling as on
 use Rattle.lk_run.proofs.call.Queued.wait.Goals as goal

@@ -1,10 +1,5 @@
-use Rattle.lk_domain.specs.NodePlays.{IsFlagNode}
-use Rattle.lk_law.specs.Cna.{node_in}
-use Rattle.lk_rows.specs.declared.parts.Flag.TheVariants.{Go, Second, Unset}
-use Rattle.lk_rows.specs.declared.parts.Pc.TheVariants.{G6, G7}
-use Rattle.lk_run.specs.Frames.{Fronts, Owns}
-use Rattle.lk_run.specs.Words.{Steps}
 use Rattle.std.proofs.Common.{subst, sym, ◌∙◌, ◌≡◌}
+use Rattle.lk_run.proofs.Names.{Go, Second, Unset, G6, G7, node_in, IsFlagNode, Fronts, Owns, Steps}
 use Rattle.lk_run.specs.declared.rest.Rest.TheVariants as rest
 use Rattle.lk_run.proofs.Calling as on
 use Rattle.lk_run.proofs.Turning as turn

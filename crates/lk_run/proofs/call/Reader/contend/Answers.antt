@@ -1,7 +1,6 @@
-use Rattle.lk_run.proofs.Steps.{rest_same}
-use Rattle.lk_run.proofs.Turning as turn
 use Rattle.std.proofs.Common.{sym, ◌∙◌}
-use Rattle.lk_run.proofs.RwSteps.{biased_alone, biased_nested}
+use Rattle.lk_run.proofs.{RwSteps.{biased_alone, biased_nested}, Steps.rest_same}
+use Rattle.lk_run.proofs.Turning as turn
 use Rattle.lk_run.proofs.call.Reader.contend.Goals as goal
 
 pub queue-requires : goal.queue-requires

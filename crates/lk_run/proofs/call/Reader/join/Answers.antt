@@ -1,9 +1,5 @@
 use Rattle.std.proofs.Common.{ap, refl}
-use Rattle.lk_rows.specs.declared.parts.Pc.TheVariants.{R4, R5}
-use Rattle.lk_rows.specs.declared.setup.Verb.TheVariants.{Read}
-use Rattle.lk_domain.specs.Calls.{waits_in}
-use Rattle.lk_domain.specs.RwRows.{joins_at}
-use Rattle.lk_domain.specs.Seats.{calls_of}
+use Rattle.lk_run.proofs.Names.{R4, R5, Read, waits_in, joins_at, calls_of}
 use Rattle.lk_run.proofs.RwRows as row
 use Rattle.lk_run.proofs.RwCalling as on
 use Rattle.lk_run.proofs.call.Reader.join.Goals as goal

@@ -1,4 +1,4 @@
-use Rattle.lk_names.specs.declared.holder.Manner.TheVariants.{Reads}
+use Rattle.lk_run.proofs.Names.{Reads}
 use Rattle.lk_run.proofs.call.Reader.leave.Goals as goal
 
 pub release-requires-clause-passed : goal.release-requires-clause-passed

@@ -1,7 +1,5 @@
 use Rattle.std.proofs.Common.{refl}
-use Rattle.lk_rows.specs.declared.parts.Pc.TheVariants.{R4}
-use Rattle.lk_rows.specs.declared.setup.Verb.TheVariants.{Read}
-use Rattle.lk_domain.specs.RwRows.{quits_by}
+use Rattle.lk_run.proofs.Names.{R4, Read, quits_by}
 use Rattle.lk_run.proofs.RwRows as row
 use Rattle.lk_run.proofs.RwCalling as on
 use Rattle.lk_run.proofs.call.Reader.retreat.Goals as goal

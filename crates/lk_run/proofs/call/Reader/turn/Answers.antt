@@ -1,6 +1,6 @@
 use Rattle.std.proofs.Common.{subst, sym}
+use Rattle.lk_run.proofs.Names.{ReadPlace}
 use Rattle.lk_run.specs.Reading.{Fits, Stands, Turns, Resting}
-use Rattle.lk_run.specs.declared.read_waiter.ReadPlace.{ReadPlace}
 use Rattle.lk_run.proofs.call.Reader.turn.Goals as goal
 
 pub go_on-requires-clause-fits : goal.go_on-requires-clause-fits

@@ -1,9 +1,5 @@
 use Rattle.std.proofs.Common.{ap, refl, eqb, eq-eqb, inr, length, sym, ◌∙◌}
-use Rattle.lk_names.specs.declared.holder.Manner.TheVariants.{Reads}
-use Rattle.lk_rows.specs.declared.parts.Pc.TheVariants.{R5}
-use Rattle.lk_rows.specs.declared.setup.Verb.TheVariants.{Read}
-use Rattle.lk_domain.specs.RwRows.{watches_at}
-use Rattle.lk_domain.specs.Seats.{calls_of}
+use Rattle.lk_run.proofs.Names.{Reads, R5, Read, watches_at, calls_of}
 use Rattle.lk_run.proofs.RwPlaces.{no_writer_by, writer_by}
 use Rattle.lk_run.proofs.RwRows as row
 use Rattle.lk_run.proofs.RwCalling as on

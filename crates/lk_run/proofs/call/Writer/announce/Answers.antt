@@ -1,6 +1,5 @@
 use Rattle.std.proofs.Common.{refl}
-use Rattle.lk_rows.specs.declared.parts.Pc.TheVariants.{Wr5}
-use Rattle.lk_rows.specs.declared.setup.Verb.TheVariants.{Write}
+use Rattle.lk_run.proofs.Names.{Wr5, Write}
 use Rattle.lk_domain.specs.RwRows.{awaits_by}
 use Rattle.lk_run.proofs.RwRows as row
 use Rattle.lk_run.proofs.RwCalling as on

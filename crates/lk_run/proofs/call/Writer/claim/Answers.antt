@@ -1,7 +1,5 @@
 use Rattle.std.proofs.Common.{refl, sym, ◌∙◌}
-use Rattle.lk_names.specs.declared.holder.Manner.TheVariants.{Writes}
-use Rattle.lk_rows.specs.declared.parts.Pc.TheVariants.{Wr5}
-use Rattle.lk_rows.specs.declared.setup.Verb.TheVariants.{Write}
+use Rattle.lk_run.proofs.Names.{Writes, Wr5, Write}
 use Rattle.lk_domain.specs.RwRows.{follows_by}
 use Rattle.lk_run.proofs.RwPlaces.{cleared_by, uncleared_by}
 use Rattle.lk_run.proofs.RwRows as row

@@ -1,4 +1,4 @@
-use Rattle.lk_names.specs.declared.holder.Manner.TheVariants.{Writes}
+use Rattle.lk_run.proofs.Names.{Writes}
 use Rattle.lk_run.proofs.call.Writer.leave.Goals as goal
 
 pub release-requires-clause-passed : goal.release-requires-clause-passed

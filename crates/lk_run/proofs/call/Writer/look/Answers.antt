@@ -1,8 +1,5 @@
 use Rattle.std.proofs.Common.{refl, eqb, inr, length}
-use Rattle.lk_rows.specs.declared.parts.Pc.TheVariants.{Wr3, Wr4}
-use Rattle.lk_rows.specs.declared.setup.Verb.TheVariants.{Write}
-use Rattle.lk_domain.specs.RwRows.{watches_at}
-use Rattle.lk_domain.specs.Seats.{calls_of}
+use Rattle.lk_run.proofs.Names.{Wr3, Wr4, Write, watches_at, calls_of}
 use Rattle.lk_run.proofs.RwPlaces.{empty_by, full_by}
 use Rattle.lk_run.proofs.RwSteps as rw
 use Rattle.lk_run.proofs.RwRows as row

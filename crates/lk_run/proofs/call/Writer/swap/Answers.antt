@@ -1,10 +1,5 @@
 use Rattle.std.proofs.Common.{ap, refl}
-use Rattle.lk_names.specs.declared.holder.Manner.TheVariants.{Writes}
-use Rattle.lk_rows.specs.declared.parts.Pc.TheVariants.{Wr3, Wr4}
-use Rattle.lk_rows.specs.declared.setup.Verb.TheVariants.{Write}
-use Rattle.lk_domain.specs.Calls.{waits_in}
-use Rattle.lk_domain.specs.RwRows.{seizes_at}
-use Rattle.lk_domain.specs.Seats.{calls_of}
+use Rattle.lk_run.proofs.Names.{Writes, Wr3, Wr4, Write, waits_in, seizes_at, calls_of}
 use Rattle.lk_run.proofs.RwPlaces.{empty_by, full_by}
 use Rattle.lk_run.proofs.RwRows as row
 use Rattle.lk_run.proofs.RwCalling as on

@@ -1,6 +1,6 @@
 use Rattle.std.proofs.Common.{subst, sym}
+use Rattle.lk_run.proofs.Names.{WritePlace}
 use Rattle.lk_run.specs.Writing.{Fits, Stands, Turns, Resting}
-use Rattle.lk_run.specs.declared.write_waiter.WritePlace.{WritePlace}
 use Rattle.lk_run.proofs.call.Writer.turn.Goals as goal
 
 pub go_on-requires-clause-fits : goal.go_on-requires-clause-fits

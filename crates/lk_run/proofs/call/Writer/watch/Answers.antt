@@ -1,8 +1,6 @@
 use Rattle.std.proofs.Common.{refl, eqb, inr, length, sym, ◌∙◌}
+use Rattle.lk_run.proofs.Names.{Write, watches_at, calls_of}
 use Rattle.lk_rows.specs.declared.parts.Pc.TheVariants.{Wr6}
-use Rattle.lk_rows.specs.declared.setup.Verb.TheVariants.{Write}
-use Rattle.lk_domain.specs.RwRows.{watches_at}
-use Rattle.lk_domain.specs.Seats.{calls_of}
 use Rattle.lk_run.proofs.RwPlaces.{cleared_by, uncleared_by}
 use Rattle.lk_run.proofs.RwSteps as rw
 use Rattle.lk_run.proofs.RwRows as row

@@ -1,7 +1,5 @@
-use Rattle.lk_domain.specs.Calls.{sight_by, sight_of, terms_of}
-use Rattle.lk_law.specs.Leads.{Linked}
-use Rattle.lk_rows.specs.Searching.{more_by}
 use Rattle.std.proofs.Common.{ap, sym, ◌∙◌}
+use Rattle.lk_run.proofs.Names.{more_by, Linked, sight_by, sight_of, terms_of}
 use Rattle.lk_run.proofs.seen.Site.more_seen.Goals as goal
 
 pub returns-in-None : goal.returns-in-None

@@ -1,6 +1,5 @@
 use Rattle.std.proofs.Common.{Some, sym}
-use Rattle.lk_domain.specs.Calls.{sight_by, sight_of, terms_of}
-use Rattle.lk_law.specs.Leads.{Linked}
+use Rattle.lk_run.proofs.Names.{Linked, sight_by, sight_of, terms_of}
 use Rattle.lk_run.proofs.seen.Site.somebody_more.Goals as goal
 
 pub returns : goal.returns
