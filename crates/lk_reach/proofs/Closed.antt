@@ -1,33 +1,22 @@
 -- What schedules reach is sound, and of its setup.
-use Rattle.std.proofs.Common.{◌≡◌, ℕ, ◌<◌, List, [], ◌∷◌, ◌++◌, false, true, refl, sym, ◌∙◌, ap, subst, length, Option, Some, None}
-use Rattle.lk_names.specs.History.{LockHistory}
-use Rattle.lk_names.specs.declared.names.LockName.{LockName}
-use Rattle.lk_names.specs.declared.names.Waiter.{Waiter}
-use Rattle.lk_names.specs.declared.events.Act.{Act}
-use Rattle.lk_names.specs.declared.events.Act.TheVariants as act
-use Rattle.lk_rows.specs.declared.setup.Setup.{Setup}
-use Rattle.lk_rows.specs.declared.parts.Frame.{Frame}
-use Rattle.lk_rows.specs.Machine.{Machine, HasNode, cpu_at, lock_at, word_at, rw_at, node_at}
-use Rattle.lk_rows.specs.Machine.{frame_at, depth_at, queued_at, halted_at, kicked_at, handlers_at}
-use Rattle.lk_rows.specs.Machine.{entry_at}
-use Rattle.lk_rows.specs.Acts.{next, processor_of}
-use Rattle.lk_rows.specs.Run.{at_rest, machine_after, rest_cpus}
-use Rattle.lk_rows.specs.Machine.{no_cpu}
-use Rattle.std.proofs.Common.{get_or, zero, suc}
-use Rattle.lk_law.specs.World.{World}
-use Rattle.lk_law.specs.Sound.{IsSound, ShowsAll, IsWhole, Fits, world, held_at}
-use Rattle.lk_law.specs.MachineLaws.{AreInRange, RunKeeps}
-use Rattle.lk_law.specs.SoundWorld.{IsSoundWorld}
-use Rattle.lk_reach.specs.declared.plan.Extras.{Extras}
-use Rattle.lk_reach.specs.declared.plan.Plan.{Plan}
-use Rattle.lk_reach.specs.Reach.{bare, after, IsMove, AreMoves, IsBegun, IsReached, cpus_of, run, start_of, state_after}
-use Rattle.lk_reach.specs.Explored.{IsSuch}
-use Rattle.lk_idle.specs.Alike.{AreAlike, GoesOnAlike}
-use Rattle.lk_idle.proofs.Goes.{alike_goes_on}
-use Rattle.lk_reach.specs.Space.{SpaceValue, Keeps}
-use Rattle.lk_reach.proofs.apart.Counts.{counts_are_idle}
-use Rattle.lk_reach.proofs.Kept.{keeps_one}
+use Rattle.std.proofs.Common.{◌≡◌, ℕ, ◌<◌, List, [], ◌∷◌, ◌++◌, false, true, refl, sym, ◌∙◌, ap}
+use Rattle.std.proofs.Common.{subst, length, Option, Some, None, get_or, zero, suc}
+use Rattle.lk_reach.proofs.Names.{Act, next, processor_of, Machine, no_cpu, at_rest, machine_after}
+use Rattle.lk_reach.proofs.Names.{Frame, Setup, AreInRange, IsSound, AreAlike, IsSuch, AreMoves}
+use Rattle.lk_reach.proofs.Names.{IsBegun, IsMove, IsReached, after, bare, cpus_of, run, start_of}
+use Rattle.lk_reach.proofs.Names.{state_after, Keeps, SpaceValue, Extras, Plan}
 use Rattle.lk_word.specs.declared.spin_word.NodeName.{NodeName}
+use Rattle.lk_names.specs.{History.LockHistory, declared.names.LockName.LockName}
+use Rattle.lk_names.specs.declared.names.Waiter.{Waiter}
+use Rattle.lk_rows.specs.Machine.{HasNode, cpu_at, lock_at, word_at, rw_at, node_at, frame_at}
+use Rattle.lk_rows.specs.Machine.{depth_at, queued_at, halted_at, kicked_at, handlers_at, entry_at}
+use Rattle.lk_rows.specs.Run.{rest_cpus}
+use Rattle.lk_law.specs.{MachineLaws.RunKeeps, Sound.{ShowsAll, IsWhole, Fits, world, held_at}}
+use Rattle.lk_law.specs.{SoundWorld.IsSoundWorld, World.World}
+use Rattle.lk_idle.proofs.Goes.{alike_goes_on}
+use Rattle.lk_idle.specs.Alike.{GoesOnAlike}
+use Rattle.lk_reach.proofs.{Kept.keeps_one, apart.Counts.counts_are_idle}
+use Rattle.lk_names.specs.declared.events.Act.TheVariants as act
 
 -- how a waiter holds a lock has nothing to do with counts
 held_same : (m : Machine) (u : Waiter) (l : LockName) (o : Option Frame)

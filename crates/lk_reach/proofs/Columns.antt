@@ -1,14 +1,11 @@
 -- The columns of acts grow.
-use Rattle.std.proofs.Common.{◌≡◌, ℕ, zero, suc, ◌<◌, ◌≤◌, ◌+◌, List, [], ◌∷◌, ◌++◌, refl, sym, ◌∙◌, ap, subst, length, Some, arith, inl, inr, length-append}
-use Rattle.std.proofs.Common.{get_or, set, length-set}
-use Rattle.std.proofs.lemmas.Bool.{cases_eq}
-use Rattle.std.proofs.lemmas.Option.{slice_get-get_or, slice_get_within}
-use Rattle.std.specs.Prelude.{slice_get}
-use Rattle.lk_names.proofs.ByIndex.{get-append, get-append_new}
-use Rattle.lk_reach.specs.declared.book.Book.{Book}
-use Rattle.lk_reach.specs.Edges.{away_in, edges_in, one_away}
-use Rattle.lk_reach.specs.Explored.{AddsThen, AreColumns, AreEmpty, LeadsTo}
+use Rattle.std.proofs.Common.{◌≡◌, ℕ, zero, suc, ◌<◌, ◌≤◌, ◌+◌, List, [], ◌∷◌, ◌++◌, refl, sym, ◌∙◌}
+use Rattle.std.proofs.Common.{ap, subst, length, Some, arith, inl, inr, length-append, get_or, set}
+use Rattle.std.proofs.Common.{length-set, slice_get}
+use Rattle.lk_reach.proofs.Names.{cases_eq, slice_get-get_or, slice_get_within, get-append}
+use Rattle.lk_reach.proofs.Names.{get-append_new, AreColumns, LeadsTo, Book}
 use Rattle.lk_reach.proofs.Kept.{front_get, one_value, set_other, set_same}
+use Rattle.lk_reach.specs.{Edges.{away_in, edges_in, one_away}, Explored.{AddsThen, AreEmpty}}
 
 -- an act led to one number
 pub leads_one : (b : Book) (k i j h : ℕ) → LeadsTo b k i j → LeadsTo b k i h → h ≡ j

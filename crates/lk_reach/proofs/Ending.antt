@@ -1,28 +1,22 @@
 -- How the states of a graph end.
-use Rattle.std.proofs.Common.{◌≡◌, ◌⊎◌, ℕ, ◌<◌, ◌≤◌, Bool, true, false, ◌||◌, List, [], ◌∷◌, ◌++◌, refl, sym, ◌∙◌, ap, subst, length, Some, arith, inl, inr}
-use Rattle.std.proofs.lemmas.Option.{slice_get-get_or, slice_get_within}
-use Rattle.std.proofs.Common.{get_or}
-use Rattle.std.proofs.lemmas.Bool.{cases_eq, cases_lt}
-use Rattle.std.specs.Prelude.{slice_get}
-use Rattle.lk_names.proofs.ByIndex.{get-append}
-use Rattle.lk_names.specs.declared.events.Act.{Act}
-use Rattle.lk_names.specs.declared.events.Act.TheVariants as act
-use Rattle.lk_rows.specs.Machine.{Machine}
-use Rattle.lk_reach.specs.declared.graph.Graph.{Graph}
-use Rattle.lk_reach.specs.Ends.{AreDoomed, AreEnds, AreFinishing, AreStuck, AreTurned, CanFinish, IsClosed, IsFirst, IsLed, IsMarkedOnly, IsPassed, LeadsMarked, StaysAt}
-use Rattle.lk_reach.specs.Ends.{IsShortestToDoom, IsShortestToEnd, IsShortestToStuck, IsState, IsStuck, NobodyIsDoomed, NobodyIsStuck}
-use Rattle.lk_idle.specs.Alike.{AreAlike}
-use Rattle.lk_reach.specs.Folded.{StandsFor}
-use Rattle.lk_reach.specs.Explored.{KeepsLike, LeadsTo}
-use Rattle.lk_reach.specs.Reach.{AreMoves, AreOver, IsMove, IsReached, after, run, state_after}
-use Rattle.lk_reach.specs.Sights.{AreGoing}
-use Rattle.lk_reach.specs.Space.{Keeps}
-use Rattle.lk_reach.specs.Told.{IsGraph, IsWay, IsWhole}
-use Rattle.lk_reach.proofs.Columns.{leads_act, leads_low, leads_one}
+use Rattle.std.proofs.Common.{◌≡◌, ◌⊎◌, ℕ, ◌<◌, ◌≤◌, Bool, true, false, ◌||◌, List, [], ◌∷◌, ◌++◌}
+use Rattle.std.proofs.Common.{refl, sym, ◌∙◌, ap, subst, length, Some, arith, inl, inr, get_or}
+use Rattle.std.proofs.Common.{slice_get}
+use Rattle.lk_reach.proofs.Names.{cases_eq, cases_lt, slice_get-get_or, slice_get_within}
+use Rattle.lk_reach.proofs.Names.{get-append, Act, Machine, AreAlike, AreFinishing, IsMarkedOnly}
+use Rattle.lk_reach.proofs.Names.{StaysAt, KeepsLike, LeadsTo, StandsFor, AreMoves, AreOver, IsMove}
+use Rattle.lk_reach.proofs.Names.{IsReached, after, run, state_after, AreGoing, Keeps, IsGraph}
+use Rattle.lk_reach.proofs.Names.{IsWay, IsWhole, Graph}
 use Rattle.lk_reach.proofs.Closed.{Laws, reached_alike, reached_such, reached_then, same_state}
-use Rattle.lk_reach.proofs.Folded.{over_stands, runs_on, stands_back, stands_self, stands_then, steps, still_stands}
+use Rattle.lk_reach.proofs.Columns.{leads_act, leads_low, leads_one}
+use Rattle.lk_reach.proofs.Folded.{over_stands, runs_on, stands_back, stands_self, stands_then}
+use Rattle.lk_reach.proofs.{Folded.{steps, still_stands}, Known.{no_sooner, whole_met}}
 use Rattle.lk_reach.proofs.Likeness.{after_alike}
-use Rattle.lk_reach.proofs.Known.{no_sooner, whole_met}
+use Rattle.lk_reach.specs.Ends.{AreDoomed, AreEnds, AreStuck, AreTurned, CanFinish, IsClosed}
+use Rattle.lk_reach.specs.Ends.{IsFirst, IsLed, IsPassed, LeadsMarked, IsShortestToDoom}
+use Rattle.lk_reach.specs.Ends.{IsShortestToEnd, IsShortestToStuck, IsState, IsStuck}
+use Rattle.lk_reach.specs.Ends.{NobodyIsDoomed, NobodyIsStuck}
+use Rattle.lk_names.specs.declared.events.Act.TheVariants as act
 
 -- the marks so far say whether everybody is done
 pub record EndsSo (g : Graph) (marks : List Bool) : Type 0 where

@@ -1,48 +1,33 @@
 -- States that stand for others.
-use Rattle.std.proofs.Common.{◌≡◌, ◌<◌, ◌-◌, ℕ, Bool, true, false, zero, suc, Option, Some, None, List, [], ◌∷◌, ◌++◌, map, length}
-use Rattle.std.proofs.Common.{ap, refl, sym, ◌∙◌, subst, slice_get}
-use Rattle.std.specs.Prelude.{◌==◌, ◌&&◌, ◌||◌, not, is_some, if◌then◌else◌, unwrap_or}
-use Rattle.std.proofs.lemmas.List.{length-map}
-use Rattle.lk_names.specs.declared.events.Act.{Act}
-use Rattle.lk_names.specs.declared.events.Act.TheVariants as act
-use Rattle.lk_names.specs.declared.events.Event.{Event}
+use Rattle.std.proofs.Common.{◌≡◌, ◌<◌, ◌-◌, ℕ, Bool, true, false, zero, suc, Option, Some, None}
+use Rattle.std.proofs.Common.{List, [], ◌∷◌, ◌++◌, map, length, ap, refl, sym, ◌∙◌, subst}
+use Rattle.std.proofs.Common.{slice_get, ◌==◌, ◌&&◌, ◌||◌, not, is_some, if◌then◌else◌}
+use Rattle.std.specs.Prelude.{unwrap_or}
+use Rattle.lk_reach.proofs.Names.{length-map, Act, Event, next, processor_of, CpuState, Machine}
+use Rattle.lk_reach.proofs.Names.{rest_frame, top_frame, Answer, at_rest, machine_after, Frame, Pc}
+use Rattle.lk_reach.proofs.Names.{Setup, is_over, row_of, AreInRange, AreAlike, bared, renamed}
+use Rattle.lk_reach.proofs.Names.{renamed_act, Renaming, IsSought, Fits, StandsFor, kind_value}
+use Rattle.lk_reach.proofs.Names.{AreMoves, AreOver, IsBegun, IsMove, IsReached, MakesRow, after}
+use Rattle.lk_reach.proofs.Names.{bare, cpus_of, run, start_of, Sought, Extras, Plan}
 use Rattle.lk_names.specs.declared.events.What.{What}
-use Rattle.lk_names.specs.declared.events.What.TheVariants as what
-use Rattle.lk_rows.specs.declared.setup.Setup.{Setup}
-use Rattle.lk_rows.specs.declared.parts.Frame.{Frame}
-use Rattle.lk_rows.specs.declared.parts.Pc.{Pc}
-use Rattle.lk_rows.specs.Machine.{Machine, CpuState, cpu_at, frame_at, depth_at, rest_frame, top_frame}
-use Rattle.lk_machine.specs.Parts.{is_over, place_of, row_of}
-use Rattle.lk_rows.specs.Row.{Answer}
-use Rattle.lk_rows.specs.Acts.{next, processor_of}
-use Rattle.lk_rows.specs.Run.{at_rest, machine_after}
-use Rattle.lk_law.specs.MachineLaws.{AreInRange}
-use Rattle.lk_core.proofs.Runs.{runs_keep}
-use Rattle.lk_core.proofs.Setups.{setup_kept}
-use Rattle.lk_idle.specs.Alike.{AreAlike, bared}
-use Rattle.lk_renaming.specs.Renaming.{Renaming, IsRenaming, IsAmongAlike, composed, reversed}
-use Rattle.lk_renaming.specs.Renamed.{renamed, renamed_frame, renamed_cpu, renamed_act, renamed_what}
-use Rattle.lk_renaming.specs.Renamed.{renamed_event, renamed_told, renamed_answer}
-use Rattle.lk_renaming.specs.Named.{HasNames}
-use Rattle.lk_renaming.proofs.Lists.{slice_get_mapped}
+use Rattle.lk_rows.specs.Machine.{cpu_at, frame_at, depth_at}
+use Rattle.lk_machine.specs.Parts.{place_of}
+use Rattle.lk_core.proofs.{Runs.runs_keep, Setups.setup_kept}
+use Rattle.lk_renaming.proofs.{Bared.alike_stays, Composed.{compose, twice, back}}
 use Rattle.lk_renaming.proofs.Cpus.{comes_low, cpu-back, cpu-renamed, cpus-renamed}
-use Rattle.lk_renaming.proofs.Writes.{top-renamed}
-use Rattle.lk_renaming.proofs.Goes.{renamed_goes_on}
-use Rattle.lk_renaming.proofs.Runs.{schedules_have_names}
-use Rattle.lk_renaming.proofs.Composed.{compose, twice, back}
-use Rattle.lk_renaming.proofs.Bared.{alike_stays}
-use Rattle.lk_reach.specs.declared.deeds.Deed.{Deed}
-use Rattle.lk_reach.specs.declared.deeds.Deed.TheVariants as deed
-use Rattle.lk_reach.specs.declared.deeds.Sought.{Sought}
-use Rattle.lk_reach.specs.declared.plan.Extras.{Extras}
-use Rattle.lk_reach.specs.declared.plan.Plan.{Plan}
-use Rattle.lk_reach.specs.Deeds.{Does, IsSought, count_value, row_by}
-use Rattle.lk_reach.specs.Folded.{Fits, StandsFor}
-use Rattle.lk_reach.specs.Kinds.{kind_value}
-use Rattle.lk_reach.specs.Reach.{IsBegun, IsMove, AreMoves, IsReached, MakesRow, AreOver, after, bare, cpus_of}
-use Rattle.lk_reach.specs.Reach.{run, start_of}
-use Rattle.lk_reach.proofs.Closed.{Laws, after_append, move_in_range, reached_alike, reached_start, reached_such, reached_then, run_bare}
+use Rattle.lk_renaming.proofs.{Goes.renamed_goes_on, Lists.slice_get_mapped}
+use Rattle.lk_renaming.proofs.{Runs.schedules_have_names, Writes.top-renamed}
+use Rattle.lk_renaming.specs.Named.{HasNames}
+use Rattle.lk_renaming.specs.Renamed.{renamed_frame, renamed_cpu, renamed_what, renamed_event}
+use Rattle.lk_renaming.specs.Renamed.{renamed_told, renamed_answer}
+use Rattle.lk_renaming.specs.Renaming.{IsRenaming, IsAmongAlike, composed, reversed}
+use Rattle.lk_reach.proofs.Closed.{Laws, after_append, move_in_range, reached_alike, reached_start}
+use Rattle.lk_reach.proofs.Closed.{reached_such, reached_then, run_bare}
 use Rattle.lk_reach.proofs.Likeness.{after_alike, makes_alike, over_alike, sought_alike}
+use Rattle.lk_reach.specs.{Deeds.{Does, count_value, row_by}, declared.deeds.Deed.Deed}
+use Rattle.lk_names.specs.declared.events.Act.TheVariants as act
+use Rattle.lk_names.specs.declared.events.What.TheVariants as what
+use Rattle.lk_reach.specs.declared.deeds.Deed.TheVariants as deed
 
 in_range : (extras : Extras) (setup : Setup) (acts : List Act) → AreMoves extras setup acts
     → AreInRange (cpus_of setup) acts

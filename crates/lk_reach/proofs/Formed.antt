@@ -1,25 +1,25 @@
 -- Parts and keys, and their forms.
-use Rattle.std.proofs.Common.{◌≡◌, ℕ, ◌<◌, ◌≤◌, ◌+◌, ◌-◌, List, [], ◌∷◌, ◌++◌, length, Some, arith, ap, refl, sym, ◌∙◌, subst, zero, suc, Bool, true, false, ◌||◌, inl, inr, map, get_or, set, slice_get, length-set, append-nil}
-use Rattle.std.specs.Prelude.{unwrap_or, if◌then◌else◌}
-use Rattle.std.proofs.lemmas.Bool.{cases_eq}
-use Rattle.std.proofs.lemmas.Option.{slice_get_within, slice_get-get_or}
+use Rattle.std.proofs.Common.{◌≡◌, ℕ, ◌<◌, ◌≤◌, ◌+◌, ◌-◌, List, [], ◌∷◌, ◌++◌, length, Some, arith}
+use Rattle.std.proofs.Common.{ap, refl, sym, ◌∙◌, subst, zero, suc, Bool, true, false, ◌||◌, inl}
+use Rattle.std.proofs.Common.{inr, map, get_or, set, slice_get, length-set, append-nil}
+use Rattle.std.proofs.Common.{if◌then◌else◌}
 use Rattle.std.proofs.lemmas.List.{ext_get_or}
-use Rattle.lk_names.proofs.ByIndex.{get-append, get-append_new}
-use Rattle.lk_rows.specs.declared.parts.Frame.{Frame}
-use Rattle.lk_rows.specs.Machine.{Machine, CpuState, cpu_at, depth_at, frame_at, node_at, no_cpu, rest_frame, rest_node, set_cpu, set_node, set_top, top_frame}
-use Rattle.lk_machine.specs.Parts.{SharedValue}
+use Rattle.std.specs.Prelude.{unwrap_or}
+use Rattle.lk_reach.proofs.Names.{cases_eq, slice_get-get_or, slice_get_within, get-append}
+use Rattle.lk_reach.proofs.Names.{get-append_new, CpuState, Machine, no_cpu, rest_frame, top_frame}
+use Rattle.lk_reach.proofs.Names.{Frame, SharedValue, AreAlike, bared, bared_cpu, rested_frame}
+use Rattle.lk_reach.proofs.Names.{Folds, Grows, IsFront, IsSameKind, Keeps, KeyKeeps, Rests}
+use Rattle.lk_reach.proofs.Names.{SpaceValue, Key}
+use Rattle.lk_rows.specs.Machine.{cpu_at, depth_at, frame_at, node_at, rest_node, set_cpu, set_node}
+use Rattle.lk_rows.specs.Machine.{set_top}
 use Rattle.lk_core.proofs.Access.{cpu_same}
-use Rattle.lk_idle.specs.Alike.{AreAlike, bared, bared_cpu, rested_cpu, rested_frame}
-use Rattle.lk_idle.specs.Free.{freed, freed_cpu, freed_node, freed_nodes, is_owned, owns}
-use Rattle.lk_idle.proofs.Frames.{rested_twice}
+use Rattle.lk_idle.proofs.{Frames.rested_twice, FreeNodes.unowned_freed, Goes.nodes_rested}
 use Rattle.lk_idle.proofs.Lists.{get_or_mapped, set_mapped}
-use Rattle.lk_idle.proofs.FreeNodes.{unowned_freed}
-use Rattle.lk_idle.proofs.Goes.{nodes_rested}
-use Rattle.lk_reach.specs.declared.key.Key.{Key}
-use Rattle.lk_reach.specs.Space.{AreFormed, Folds, Grows, HasForm, HaveForm, IsFoldOf, IsFormed, IsFront, IsNumberOf}
-use Rattle.lk_reach.specs.Space.{IsSameKind, Keeps, KeyKeeps, Rests, SameStates, SpaceValue}
-use Rattle.lk_reach.proofs.Kept.{front_at, front_self, keeps_one, one_value}
-use Rattle.lk_reach.proofs.Likeness.{cpus_bared}
+use Rattle.lk_idle.specs.Alike.{rested_cpu}
+use Rattle.lk_idle.specs.Free.{freed, freed_cpu, freed_node, freed_nodes, is_owned, owns}
+use Rattle.lk_reach.proofs.{Kept.{front_at, front_self, keeps_one, one_value}, Likeness.cpus_bared}
+use Rattle.lk_reach.specs.Space.{AreFormed, HasForm, HaveForm, IsFoldOf, IsFormed, IsNumberOf}
+use Rattle.lk_reach.specs.Space.{SameStates}
 
 -- what is formed stays so when there is more
 pub formed_grown : (parts more forms others : List CpuState) (classes : List ℕ) → IsFront parts more

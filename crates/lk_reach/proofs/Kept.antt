@@ -1,18 +1,14 @@
 -- What is kept of states.
-use Rattle.std.proofs.Common.{◌≡◌, ℕ, ◌<◌, ◌≤◌, ◌+◌, ◌*◌, List, [], ◌∷◌, ◌++◌, length, Option, Some, arith, ap, refl, sym, ◌∙◌, subst, zero, suc, append-nil, append_assoc, inl, inr}
-use Rattle.std.proofs.Common.{set}
-use Rattle.std.proofs.lemmas.Bool.{cases_eq}
+use Rattle.std.proofs.Common.{◌≡◌, ℕ, ◌<◌, ◌≤◌, ◌+◌, ◌*◌, List, [], ◌∷◌, ◌++◌, length, Option, Some}
+use Rattle.std.proofs.Common.{arith, ap, refl, sym, ◌∙◌, subst, zero, suc, append-nil, append_assoc}
+use Rattle.std.proofs.Common.{inl, inr, set, slice_get, slice_index_or, get_or, length-set}
 use Rattle.std.proofs.lemmas.List.{ext_get_or, get_or-set_same, get_or-set_other}
-use Rattle.std.proofs.lemmas.Option.{slice_get_within, slice_get-get_or}
-use Rattle.std.specs.Prelude.{slice_get, slice_index_or}
-use Rattle.lk_rows.specs.Machine.{Machine, CpuState, cpu_at, no_cpu, set_cpu}
-use Rattle.std.proofs.Common.{get_or, length-set}
-use Rattle.lk_rows.specs.declared.setup.Setup.{Setup}
 use Rattle.std.specs.Int.{IsNextPowerOfTwo}
-use Rattle.lk_rows.specs.Layouts.{layout_of}
-use Rattle.lk_machine.specs.Parts.{Fits, Holds, SharedValue}
-use Rattle.lk_reach.specs.declared.key.Key.{Key}
-use Rattle.lk_reach.specs.Space.{IsFront, HasShared, SpaceValue, KeyKeeps, Keeps, Grows}
+use Rattle.lk_reach.proofs.Names.{cases_eq, slice_get-get_or, slice_get_within, CpuState, Machine}
+use Rattle.lk_reach.proofs.Names.{no_cpu, Setup, SharedValue, Grows, HasShared, IsFront, Keeps}
+use Rattle.lk_reach.proofs.Names.{KeyKeeps, SpaceValue, Key}
+use Rattle.lk_rows.specs.{Layouts.layout_of, Machine.{cpu_at, set_cpu}}
+use Rattle.lk_machine.specs.Parts.{Fits, Holds}
 
 -- an item stays where it is
 pub front_get : {A : Type 0} → (xs ys : List A) (i : ℕ) (x : A) → slice_get xs i ≡ Some x

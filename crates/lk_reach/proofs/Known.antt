@@ -1,25 +1,15 @@
 -- Which schedules lead to states that were met.
-use Rattle.std.proofs.Common.{◌≡◌, ℕ, ◌<◌, ◌≤◌, ◌+◌, List, [], ◌∷◌, ap, subst, length, Some, None, arith, inl, inr}
-use Rattle.std.proofs.lemmas.Bool.{cases_eq, cases_lt}
-use Rattle.std.proofs.lemmas.Option.{slice_get-get_or, slice_get_within}
-use Rattle.std.specs.Prelude.{slice_get}
-use Rattle.lk_names.proofs.ByIndex.{get_cases}
-use Rattle.lk_names.specs.declared.events.Act.{Act}
-use Rattle.lk_rows.specs.declared.setup.Setup.{Setup}
-use Rattle.lk_rows.specs.Machine.{Machine}
-use Rattle.lk_rows.specs.Acts.{next}
-use Rattle.lk_rows.specs.Run.{machine_after}
-use Rattle.lk_reach.specs.declared.book.Book.{Book}
-use Rattle.lk_reach.specs.declared.origin.Origin.{Origin}
-use Rattle.lk_reach.specs.declared.plan.Plan.{Plan}
-use Rattle.lk_reach.specs.Explored.{AreAllMoves, IsExplored, IsLeft, IsMet, KeepsLike}
-use Rattle.lk_reach.specs.Folded.{StandsFor}
-use Rattle.lk_reach.specs.Reach.{bare, after, IsMove, AreMoves, IsBegun, IsReached, start_of, state_after}
-use Rattle.lk_reach.specs.Space.{SpaceValue, Keeps}
+use Rattle.std.proofs.Common.{◌≡◌, ℕ, ◌<◌, ◌≤◌, ◌+◌, List, [], ◌∷◌, ap, subst, length, Some, None}
+use Rattle.std.proofs.Common.{arith, inl, inr, slice_get}
+use Rattle.lk_reach.proofs.Names.{cases_eq, cases_lt, slice_get-get_or, slice_get_within, get_cases}
+use Rattle.lk_reach.proofs.Names.{Act, next, Machine, machine_after, Setup, AreAllMoves, IsExplored}
+use Rattle.lk_reach.proofs.Names.{IsLeft, KeepsLike, StandsFor, AreMoves, IsBegun, IsMove}
+use Rattle.lk_reach.proofs.Names.{IsReached, after, bare, start_of, state_after, Keeps, SpaceValue}
+use Rattle.lk_reach.proofs.Names.{Book, Origin, Plan}
 use Rattle.lk_reach.proofs.Closed.{Laws, reached_start, reached_then, same_state}
+use Rattle.lk_reach.proofs.{Folded.{stands_self, stands_then, steps}, Kept.one_value}
 use Rattle.lk_reach.proofs.apart.Counts.{counts_are_idle}
-use Rattle.lk_reach.proofs.Folded.{stands_self, stands_then, steps}
-use Rattle.lk_reach.proofs.Kept.{one_value}
+use Rattle.lk_reach.specs.Explored.{IsMet}
 
 module _ (laws : Laws) (plan : Plan) (setup : Setup) (begun : IsBegun plan setup) where
   -- what a number keeps stands for what it keeps a state for

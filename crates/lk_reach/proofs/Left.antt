@@ -1,32 +1,21 @@
 -- What an exploration knows grows.
-use Rattle.std.proofs.Common.{◌≡◌, ℕ, zero, suc, ◌<◌, ◌≤◌, ◌+◌, true, List, [], ◌∷◌, sym, ◌∙◌, ap, subst, length, Option, Some, None, arith, inl, inr, length-append}
-use Rattle.std.proofs.lemmas.Bool.{cases_lt, cases_eq}
-use Rattle.std.proofs.lemmas.Option.{slice_get_within}
-use Rattle.std.specs.Prelude.{slice_get}
-use Rattle.lk_names.specs.declared.events.Act.{Act}
-use Rattle.lk_rows.specs.declared.setup.Setup.{Setup}
-use Rattle.lk_rows.specs.Machine.{Machine, set_counts, rest_counts}
-use Rattle.lk_rows.specs.declared.parts.Counts.{Counts}
-use Rattle.lk_law.specs.Sound.{IsSound}
-use Rattle.lk_names.specs.declared.events.Event.{Event}
-use Rattle.lk_names.proofs.ByIndex.{get_cases}
-use Rattle.lk_rows.specs.Acts.{next}
-use Rattle.lk_reach.specs.declared.book.Book.{Book}
-use Rattle.lk_reach.specs.declared.origin.Origin.{Origin}
-use Rattle.lk_reach.specs.declared.plan.Plan.{Plan}
-use Rattle.lk_reach.specs.Kinds.{kind_value}
-use Rattle.lk_reach.specs.Reach.{IsBegun, IsMove, IsReached, after, bare, start_of}
-use Rattle.lk_reach.specs.Space.{SpaceValue, Keeps, Grows, IsLoadable}
-use Rattle.lk_reach.specs.Explored.{AreAllMoves, Continues}
-use Rattle.lk_reach.specs.Folded.{HaveFolds, IsNoted}
-use Rattle.lk_reach.specs.Explored.{AreColumns, IsAct, IsExplored, IsGood, IsHalfLeft, IsLeft}
-use Rattle.lk_reach.specs.Explored.{IsNew, IsOrigin, IsStepped, IsSuch, IsTelling, IsTried}
-use Rattle.lk_reach.specs.Explored.{KeepsLike}
-use Rattle.lk_reach.specs.Explored.{Writes}
-use Rattle.lk_reach.proofs.Kept.{front_at, front_self, front_then, keeps_grown, keeps_one, one_value}
-use Rattle.lk_reach.proofs.Columns.{columns_push, leads_now}
-use Rattle.lk_reach.proofs.apart.Grown.{continues, good_grown, left_grown, origin_cases, origin_grown, telling_grown, tried_grown}
+use Rattle.std.proofs.Common.{◌≡◌, ℕ, zero, suc, ◌<◌, ◌≤◌, ◌+◌, true, List, [], ◌∷◌, sym, ◌∙◌, ap}
+use Rattle.std.proofs.Common.{subst, length, Option, Some, None, arith, inl, inr, length-append}
+use Rattle.std.proofs.Common.{slice_get}
+use Rattle.lk_reach.proofs.Names.{cases_eq, cases_lt, slice_get_within, get_cases, Act, Event, next}
+use Rattle.lk_reach.proofs.Names.{Machine, Setup, IsSound, AreAllMoves, AreColumns, IsExplored}
+use Rattle.lk_reach.proofs.Names.{IsGood, IsLeft, IsOrigin, IsStepped, IsSuch, KeepsLike, HaveFolds}
+use Rattle.lk_reach.proofs.Names.{IsNoted, kind_value, IsBegun, IsMove, IsReached, after, bare}
+use Rattle.lk_reach.proofs.Names.{start_of, Grows, Keeps, SpaceValue, Book, Origin, Plan}
+use Rattle.lk_rows.specs.{Machine.{set_counts, rest_counts}, declared.parts.Counts.Counts}
 use Rattle.lk_reach.proofs.Closed.{Laws, reached_sound, reached_start, reached_such, reached_then}
+use Rattle.lk_reach.proofs.Columns.{columns_push, leads_now}
+use Rattle.lk_reach.proofs.Kept.{front_at, front_self, front_then, keeps_grown, keeps_one}
+use Rattle.lk_reach.proofs.Kept.{one_value}
+use Rattle.lk_reach.proofs.apart.Grown.{continues, good_grown, left_grown, origin_cases}
+use Rattle.lk_reach.proofs.apart.Grown.{origin_grown, telling_grown, tried_grown}
+use Rattle.lk_reach.specs.Explored.{Continues, IsAct, IsHalfLeft, IsNew, IsTelling, IsTried, Writes}
+use Rattle.lk_reach.specs.Space.{IsLoadable}
 
 pub grows_self : (v : SpaceValue) → Grows v v
 grows_self v = record {

@@ -1,3 +1,4 @@
+pub mod Names
 pub mod Likeness
 pub mod Closed
 pub mod Folded

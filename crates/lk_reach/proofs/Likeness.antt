@@ -1,23 +1,16 @@
 -- States that differ in what nobody reads alone make the same rows, end the same, and lead to such states.
-use Rattle.std.proofs.Common.{◌≡◌, ◌<◌, ℕ, None, length, ap, refl, sym, ◌∙◌, subst}
-use Rattle.std.specs.Prelude.{◌==◌, ◌&&◌, ◌||◌, not, is_some, if◌then◌else◌}
-use Rattle.std.proofs.lemmas.List.{length-map}
-use Rattle.lk_names.specs.declared.events.Act.{Act}
+use Rattle.std.proofs.Common.{◌≡◌, ◌<◌, ℕ, None, length, ap, refl, sym, ◌∙◌, subst, ◌==◌, ◌&&◌}
+use Rattle.std.proofs.Common.{◌||◌, not, is_some, if◌then◌else◌}
+use Rattle.lk_reach.proofs.Names.{length-map, Act, processor_of, CpuState, Machine, top_frame}
+use Rattle.lk_reach.proofs.Names.{Frame, Pc, is_over, row_of, AreAlike, bared, bared_cpu}
+use Rattle.lk_reach.proofs.Names.{rested_frame, IsSought, AreOver, MakesRow, after, bare, Sought}
+use Rattle.lk_rows.specs.Machine.{cpu_at}
+use Rattle.lk_machine.specs.Parts.{place_of}
+use Rattle.lk_idle.proofs.{Goes.{cpu-bared, top-bared}, Writes.top_in-rested}
+use Rattle.lk_idle.specs.{Alike.{GoesOnAlike, rested_cpu}, Free.{freed, freed_cpu}}
+use Rattle.lk_reach.specs.{Deeds.{Does, count_value, row_by}, declared.deeds.Deed.Deed}
 use Rattle.lk_names.specs.declared.events.Act.TheVariants as act
-use Rattle.lk_rows.specs.declared.parts.Pc.{Pc}
-use Rattle.lk_rows.specs.declared.parts.Frame.{Frame}
-use Rattle.lk_rows.specs.Acts.{processor_of}
-use Rattle.lk_rows.specs.Machine.{Machine, CpuState, cpu_at, top_frame}
-use Rattle.lk_machine.specs.Parts.{is_over, place_of, row_of}
-use Rattle.lk_idle.specs.Alike.{AreAlike, GoesOnAlike, bared, bared_cpu, rested_cpu, rested_frame}
-use Rattle.lk_idle.specs.Free.{freed, freed_cpu}
-use Rattle.lk_idle.proofs.Writes.{top_in-rested}
-use Rattle.lk_idle.proofs.Goes.{cpu-bared, top-bared}
-use Rattle.lk_reach.specs.declared.deeds.Deed.{Deed}
 use Rattle.lk_reach.specs.declared.deeds.Deed.TheVariants as deed
-use Rattle.lk_reach.specs.declared.deeds.Sought.{Sought}
-use Rattle.lk_reach.specs.Deeds.{Does, IsSought, count_value, row_by}
-use Rattle.lk_reach.specs.Reach.{AreOver, MakesRow, after, bare}
 
 -- parts that are alike
 

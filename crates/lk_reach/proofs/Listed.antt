@@ -1,14 +1,12 @@
 -- Lists of the values of functions, and numbers at positions.
-use Rattle.std.proofs.Common.{◌≡◌, ◌≢◌, ℕ, zero, suc, ◌<◌, ◌≤◌, ◌+◌, ◌*◌, ◌/◌, ◌%◌, List, [], ◌∷◌, ◌++◌, refl, sym, ◌∙◌, ap, subst, length, Some, None, arith, inl, inr}
-use Rattle.std.proofs.Common.{get_or, length-append}
-use Rattle.std.proofs.lemmas.Bool.{cases_lt}
-use Rattle.std.proofs.lemmas.List.{get_or_append_left}
+use Rattle.std.proofs.Common.{◌≡◌, ◌≢◌, ℕ, zero, suc, ◌<◌, ◌≤◌, ◌+◌, ◌*◌, ◌/◌, ◌%◌, List, [], ◌∷◌}
+use Rattle.std.proofs.Common.{◌++◌, refl, sym, ◌∙◌, ap, subst, length, Some, None, arith, inl, inr}
+use Rattle.std.proofs.Common.{get_or, length-append, slice_get}
+use Rattle.std.proofs.{Math.Seq.get_or-append_seam, lemmas.List.get_or_append_left}
 use Rattle.std.proofs.lemmas.Option.{slice_get_past}
-use Rattle.std.proofs.Math.Seq.{get_or-append_seam}
-use Rattle.std.specs.Prelude.{slice_get}
-use Rattle.lk_names.proofs.ByIndex.{get-append_new}
-use Rattle.lk_reach.specs.declared.numbers.fours.Fours.{Fours}
-use Rattle.lk_reach.specs.Numbers.{Pads, Puts, PutsFour, firsts, joined, listed, lower_halves, none, nth, upper_halves}
+use Rattle.lk_reach.proofs.Names.{cases_lt, get-append_new, firsts, none}
+use Rattle.lk_reach.specs.Numbers.{Pads, Puts, PutsFour, joined, listed, lower_halves, nth}
+use Rattle.lk_reach.specs.{Numbers.upper_halves, declared.numbers.fours.Fours.Fours}
 
 -- a list of values
 

@@ -1,15 +1,13 @@
 -- Processors that are alike.
-use Rattle.std.proofs.Common.{◌≡◌, ◌<◌, ◌≤◌, ◌-◌, ℕ, suc, Bool, true, false, List, [], ◌∷◌, get_or, slice_get, Some, length, ap, refl, sym, ◌∙◌, subst, arith, inl, inr}
-use Rattle.std.specs.Prelude.{◌==◌, if◌then◌else◌}
-use Rattle.std.proofs.lemmas.Bool.{cases_lt, le-ltb, lt-ltb}
-use Rattle.std.proofs.lemmas.List.{get_or_past}
-use Rattle.std.proofs.lemmas.Option.{slice_get-get_or, slice_get_within}
-use Rattle.lk_names.specs.ListOf.{ListOf}
-use Rattle.lk_rows.specs.declared.setup.Op.{Op}
-use Rattle.lk_rows.specs.declared.setup.Setup.{Setup}
+use Rattle.std.proofs.Common.{◌≡◌, ◌<◌, ◌≤◌, ◌-◌, ℕ, suc, Bool, true, false, List, [], ◌∷◌, get_or}
+use Rattle.std.proofs.Common.{slice_get, Some, length, ap, refl, sym, ◌∙◌, subst, arith, inl, inr}
+use Rattle.std.proofs.Common.{◌==◌, if◌then◌else◌}
+use Rattle.std.proofs.{lemmas.Bool.{le-ltb, lt-ltb}, lemmas.List.get_or_past}
+use Rattle.lk_reach.proofs.Names.{cases_lt, slice_get-get_or, slice_get_within, ListOf, Op, Setup}
+use Rattle.lk_reach.proofs.Names.{IsPeer}
 use Rattle.lk_rows.specs.Programs.{handlers_of, program_at}
-use Rattle.lk_reach.specs.Peers.{AreFirsts, HasSameHandlers, IsPeer, number_of}
 use Rattle.lk_reach.proofs.Kept.{one_value}
+use Rattle.lk_reach.specs.Peers.{AreFirsts, HasSameHandlers, number_of}
 
 -- lists of the same items
 pub same_list : {A : Type 0} (xs ys : List A) → length xs ≡ length ys

@@ -1,13 +1,12 @@
 -- A copy of a lawful setup is lawful.
-use Rattle.std.proofs.Common.{arith, ℕ, zero, suc, ◌≡◌, ◌∙◌, ◌+◌, ◌++◌, List, [], ◌∷◌, Some, length, map, ap, refl, sym, subst}
-use Rattle.std.proofs.lemmas.List.{length-map}
-use Rattle.std.specs.Prelude.{◌≤◌, ◌-◌, ◌==◌, if◌then◌else◌, slice_get, slice_index_or, take}
-use Rattle.lk_names.specs.ListOf.{ListOf}
+use Rattle.std.proofs.Common.{arith, ℕ, zero, suc, ◌≡◌, ◌∙◌, ◌+◌, ◌++◌, List, [], ◌∷◌, Some, length}
+use Rattle.std.proofs.Common.{map, ap, refl, sym, subst, ◌≤◌, ◌-◌, ◌==◌, if◌then◌else◌, slice_get}
+use Rattle.std.proofs.Common.{slice_index_or, take}
+use Rattle.lk_reach.proofs.Names.{length-map, ListOf, IsLawfulSetup, Op, Setup, tight, tight_lists}
+use Rattle.lk_reach.proofs.Names.{tight_setup}
 use Rattle.lk_names.specs.declared.names.Kind.{Kind}
-use Rattle.lk_rows.specs.declared.setup.Op.{Op}
-use Rattle.lk_rows.specs.declared.setup.Setup.{Setup}
-use Rattle.lk_rows.specs.Programs.{IsLawfulProgram, IsLawfulSetup, handlers_of, program_at}
-use Rattle.lk_reach.specs.Copies.{full, tight, tight_lists, tight_setup}
+use Rattle.lk_rows.specs.Programs.{IsLawfulProgram, handlers_of, program_at}
+use Rattle.lk_reach.specs.Copies.{full}
 
 -- one more is copied
 next_suc : {A B : Type 0} (f : A → B) (xs : List A) (n : ℕ) (x : A) → slice_get xs n ≡ Some x

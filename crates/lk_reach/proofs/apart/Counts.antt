@@ -1,44 +1,36 @@
 -- The counts change nothing else.
-use Rattle.std.proofs.Common.{◌≡◌, ℕ, Option, Some, None, Bool, true, false, List, [], ◌∷◌, ap, refl, sym, ◌∙◌, ◌+◌}
-use Rattle.std.specs.Prelude.{if◌then◌else◌, ◌==◌, ◌||◌, not, slice_get}
-use Rattle.lk_names.specs.declared.names.LockName.{LockName}
-use Rattle.lk_names.specs.declared.events.Act.{Act}
-use Rattle.lk_names.specs.declared.events.Act.TheVariants as act
+use Rattle.std.proofs.Common.{◌≡◌, ℕ, Option, Some, None, Bool, true, false, List, [], ◌∷◌, ap}
+use Rattle.std.proofs.Common.{refl, sym, ◌∙◌, ◌+◌, if◌then◌else◌, ◌==◌, ◌||◌, not, slice_get}
+use Rattle.lk_reach.proofs.Names.{Act, next, Machine, top_frame, Answer, Frame, Pc, Op, bare}
+use Rattle.lk_word.specs.{declared.rw_word.RwFields.RwFields, declared.spin_word.Fields.Fields}
 use Rattle.lk_word.specs.declared.spin_word.NodeName.{NodeName}
-use Rattle.lk_word.specs.declared.spin_word.Fields.{Fields}
-use Rattle.lk_word.specs.declared.rw_word.RwFields.{RwFields}
-use Rattle.lk_rows.specs.declared.setup.Op.{Op}
-use Rattle.lk_rows.specs.declared.parts.Flag.{Flag}
-use Rattle.lk_rows.specs.declared.parts.State.{State}
-use Rattle.lk_rows.specs.declared.parts.Frame.{Frame}
-use Rattle.lk_rows.specs.declared.parts.Counts.{Counts}
-use Rattle.lk_rows.specs.declared.parts.Pc.{Pc}
-use Rattle.lk_rows.specs.Machine.{Machine, cpu_at, lock_at, word_at, rw_at, node_at, frame_at}
-use Rattle.lk_rows.specs.Machine.{depth_at, queued_at, preempted_at, halted_at, kicked_at}
-use Rattle.lk_rows.specs.Machine.{handlers_at, entry_at, top_frame, set_cpu, set_lock, set_counts}
-use Rattle.lk_rows.specs.Machine.{set_word, set_rw, set_node, set_top, set_queued, set_preempted}
-use Rattle.lk_rows.specs.Machine.{set_halted, set_kicked, set_entry, pop, push, rest_counts}
-use Rattle.lk_rows.specs.Moves.{settled, settled_at, program_of, done, granted, missed}
-use Rattle.lk_rows.specs.Moves.{leave, context_of, waiter_of, skipped}
-use Rattle.lk_rows.specs.Row.{Answer, Counter, Effect, Lead, Goes, Enters, Granted, Freed, Missed}
-use Rattle.lk_rows.specs.Row.{Leaves, Yields, Done, TakesWait, Tell, Nothing, Says, Passes, moved}
+use Rattle.lk_names.specs.declared.names.LockName.{LockName}
+use Rattle.lk_rows.specs.Acts.{idle, woken, kicked_awake, step_halted, step, is_shut, handler_frame}
+use Rattle.lk_rows.specs.Acts.{awake, interrupted, nudged}
+use Rattle.lk_rows.specs.Machine.{cpu_at, lock_at, word_at, rw_at, node_at, frame_at, depth_at}
+use Rattle.lk_rows.specs.Machine.{queued_at, preempted_at, halted_at, kicked_at, handlers_at}
+use Rattle.lk_rows.specs.Machine.{entry_at, set_cpu, set_lock, set_counts, set_word, set_rw}
+use Rattle.lk_rows.specs.Machine.{set_node, set_top, set_queued, set_preempted, set_halted}
+use Rattle.lk_rows.specs.Machine.{set_kicked, set_entry, pop, push, rest_counts}
+use Rattle.lk_rows.specs.Moves.{settled, settled_at, program_of, done, granted, missed, leave}
+use Rattle.lk_rows.specs.Moves.{context_of, waiter_of, skipped}
+use Rattle.lk_rows.specs.Row.{Counter, Effect, Lead, Goes, Enters, Granted, Freed, Missed, Leaves}
+use Rattle.lk_rows.specs.Row.{Yields, Done, TakesWait, Tell, Nothing, Says, Passes, moved}
 use Rattle.lk_rows.specs.Row.{with_rest, event_of, applied, counted, entered}
-use Rattle.lk_rows.specs.rows.Spin.{spin_row}
-use Rattle.lk_rows.specs.rows.Queue.{queue_row, entry_row, flag_row, next_row}
-use Rattle.lk_rows.specs.rows.Cna.{search_row, second_row, runs_row, handover_row, promotion_row}
-use Rattle.lk_rows.specs.rows.Pv.{pv_row, pv_flag_row, pv_next_row, state_row, hash_row, halt_row}
-use Rattle.lk_rows.specs.rows.Pv.{kick_row}
-use Rattle.lk_rows.specs.rows.Rw.{rw_row}
 use Rattle.lk_rows.specs.TopRow.{Target, SpinWord, QueueWord, Queued, FlagOf, NextOf, ChoiceWord}
 use Rattle.lk_rows.specs.TopRow.{ChoiceFlag, ChoiceNext, SecondTailOf, RunsOf, PvWord, PvFlag}
 use Rattle.lk_rows.specs.TopRow.{PvNext, StateOf, HashEntry, Halted, KickOf, RwWord, target}
 use Rattle.lk_rows.specs.TopRow.{sight_at, stored_word, stored_rw, stored_flag, stored_next}
 use Rattle.lk_rows.specs.TopRow.{stored_second, stored_runs, stored_state, stored_entry}
-use Rattle.lk_rows.specs.TopRow.{stored_halted, stored_kicked, stored_queued}
-use Rattle.lk_rows.specs.TopRow.{row_on, row_at, row}
-use Rattle.lk_rows.specs.Acts.{idle, woken, kicked_awake, step_halted, step, is_shut, handler_frame}
-use Rattle.lk_rows.specs.Acts.{awake, interrupted, nudged, next}
-use Rattle.lk_reach.specs.Reach.{bare, CountsAreIdle}
+use Rattle.lk_rows.specs.TopRow.{stored_halted, stored_kicked, stored_queued, row_on, row_at, row}
+use Rattle.lk_rows.specs.{declared.parts.Counts.Counts, declared.parts.Flag.Flag}
+use Rattle.lk_rows.specs.declared.parts.State.{State}
+use Rattle.lk_rows.specs.rows.Cna.{search_row, second_row, runs_row, handover_row, promotion_row}
+use Rattle.lk_rows.specs.rows.Pv.{pv_row, pv_flag_row, pv_next_row, state_row, hash_row, halt_row}
+use Rattle.lk_rows.specs.{rows.Pv.kick_row, rows.Queue.{queue_row, entry_row, flag_row, next_row}}
+use Rattle.lk_rows.specs.{rows.Rw.rw_row, rows.Spin.spin_row}
+use Rattle.lk_reach.specs.Reach.{CountsAreIdle}
+use Rattle.lk_names.specs.declared.events.Act.TheVariants as act
 
 -- the machine with these counts
 abbrev with_counts : Counts → Machine → Machine

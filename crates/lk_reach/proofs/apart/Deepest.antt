@@ -1,21 +1,12 @@
 -- The deepest level.
-use Rattle.std.proofs.Common.{◌≡◌, ℕ, zero, suc, ◌<◌, ◌≤◌, ◌-◌, List, [], ◌∷◌, refl, ap, subst, length, Some, arith, inl, inr}
-use Rattle.std.proofs.lemmas.Bool.{cases_eq}
-use Rattle.std.proofs.lemmas.Option.{slice_get_within}
-use Rattle.std.specs.Prelude.{slice_get}
-use Rattle.lk_names.specs.declared.events.Act.{Act}
-use Rattle.lk_rows.specs.Machine.{Machine}
-use Rattle.lk_reach.specs.declared.origin.Origin.{Origin}
-use Rattle.lk_reach.specs.declared.graph.Graph.{Graph}
-use Rattle.lk_reach.specs.Reach.{AreMoves, state_after}
-use Rattle.lk_reach.specs.Folded.{StandsFor}
-use Rattle.lk_reach.specs.Path.{IsBefore}
-use Rattle.lk_reach.specs.Told.{IsDeepest, IsGraph, IsLikeWithin, IsWithin, IsWhole}
-use Rattle.lk_reach.proofs.Closed.{Laws, same_state}
-use Rattle.lk_reach.proofs.Known.{no_sooner, whole_met}
-use Rattle.lk_reach.proofs.Kept.{one_value}
-use Rattle.lk_reach.proofs.apart.Leading.{LeadsOn, leads_start, leads_then, way_to}
+use Rattle.std.proofs.Common.{◌≡◌, ℕ, zero, suc, ◌<◌, ◌≤◌, ◌-◌, List, [], ◌∷◌, refl, ap, subst}
+use Rattle.std.proofs.Common.{length, Some, arith, inl, inr, slice_get}
+use Rattle.lk_reach.proofs.Names.{cases_eq, slice_get_within, Act, Machine, StandsFor, AreMoves}
+use Rattle.lk_reach.proofs.Names.{state_after, IsGraph, IsWhole, Graph, Origin}
+use Rattle.lk_reach.proofs.{Closed.{Laws, same_state}, Kept.one_value, Known.{no_sooner, whole_met}}
 use Rattle.lk_reach.proofs.Left.{has_origin}
+use Rattle.lk_reach.proofs.apart.Leading.{LeadsOn, leads_start, leads_then, way_to}
+use Rattle.lk_reach.specs.{Path.IsBefore, Told.{IsDeepest, IsLikeWithin, IsWithin}}
 
 module _ (laws : Laws) (g : Graph) (is : IsGraph g) where
   -- acts from the first state on, where there are some from this one on

@@ -1,23 +1,13 @@
 -- A shortest schedule to an act that is sought.
-use Rattle.std.proofs.Common.{◌≡◌, ℕ, ◌<◌, List, sym, subst, length, Some, None, true, arith, inl, inr, refl}
-use Rattle.std.proofs.lemmas.Option.{slice_get_within}
-use Rattle.std.proofs.lemmas.Bool.{cases_lt}
-use Rattle.std.specs.Prelude.{slice_get}
-use Rattle.lk_names.specs.declared.events.Act.{Act}
-use Rattle.lk_rows.specs.declared.setup.Setup.{Setup}
-use Rattle.lk_rows.specs.Machine.{Machine}
-use Rattle.lk_reach.specs.declared.deeds.Sought.{Sought}
-use Rattle.lk_reach.specs.declared.graph.Graph.{Graph}
-use Rattle.lk_reach.specs.Deeds.{IsNeverDone, IsShortestToDeed, IsSought}
-use Rattle.lk_reach.specs.Explored.{IsExplored, IsStepped, IsSuch}
-use Rattle.lk_reach.specs.Reach.{AreMoves, IsBegun, IsReached, cpus_of, state_after}
-use Rattle.lk_reach.specs.Seeking.{IsFirstDeed, NameCpus, NoneAt}
-use Rattle.lk_reach.specs.Space.{Keeps}
-use Rattle.lk_reach.specs.Told.{IsGraph, IsWay, IsWhole}
+use Rattle.std.proofs.Common.{◌≡◌, ℕ, ◌<◌, List, sym, subst, length, Some, None, true, arith, inl}
+use Rattle.std.proofs.Common.{inr, refl, slice_get}
+use Rattle.lk_reach.proofs.Names.{cases_lt, slice_get_within, Act, Machine, Setup, IsSought}
+use Rattle.lk_reach.proofs.Names.{IsExplored, IsStepped, IsSuch, AreMoves, IsBegun, IsReached}
+use Rattle.lk_reach.proofs.Names.{cpus_of, state_after, NoneAt, Keeps, IsGraph, IsWay, IsWhole}
+use Rattle.lk_reach.proofs.Names.{Sought, Graph}
 use Rattle.lk_reach.proofs.Closed.{Laws, move_in_range, reached_sound, reached_such}
-use Rattle.lk_reach.proofs.Folded.{deeds_stand}
-use Rattle.lk_reach.proofs.Known.{no_sooner, whole_met}
-use Rattle.lk_reach.proofs.Kept.{one_value}
+use Rattle.lk_reach.proofs.{Folded.deeds_stand, Kept.one_value, Known.{no_sooner, whole_met}}
+use Rattle.lk_reach.specs.{Deeds.{IsNeverDone, IsShortestToDeed}, Seeking.{IsFirstDeed, NameCpus}}
 
 -- another machine of the setup
 pub graph_same : (g : Graph) (m : Machine) → IsSuch g.machine.setup m → IsGraph g → IsGraph (record g { machine = m })

@@ -1,14 +1,9 @@
 -- How each kind of event was first met, with one more event.
-use Rattle.std.proofs.Common.{◌≡◌, ℕ, zero, suc, ◌<◌, List, Option, Some, None, sym, ◌∙◌, ap, subst, inl, inr, length, replicate}
-use Rattle.std.proofs.Common.{◌⊎◌}
-use Rattle.std.proofs.lemmas.Bool.{cases_eq}
-use Rattle.std.specs.Prelude.{slice_get, slice_set}
-use Rattle.lk_names.specs.declared.events.Event.{Event}
-use Rattle.lk_reach.specs.declared.origin.Origin.{Origin}
-use Rattle.lk_reach.specs.Explored.{AddsFirst, IsOf}
-use Rattle.lk_reach.specs.Kinds.{kind_value}
-use Rattle.std.proofs.lemmas.Option.{slice_get_within}
+use Rattle.std.proofs.Common.{◌≡◌, ℕ, zero, suc, ◌<◌, List, Option, Some, None, sym, ◌∙◌, ap, subst}
+use Rattle.std.proofs.Common.{inl, inr, length, replicate, ◌⊎◌, slice_get, slice_set}
+use Rattle.lk_reach.proofs.Names.{cases_eq, slice_get_within, Event, kind_value, Origin}
 use Rattle.lk_reach.proofs.Kept.{set_other, set_same}
+use Rattle.lk_reach.specs.Explored.{AddsFirst, IsOf}
 
 same_event : (o : Option Event) (e d : Event) → o ≡ Some e → o ≡ Some d → e ≡ d
 same_event o e d a b = cc

@@ -1,30 +1,16 @@
 -- When an act leads on from a state: states that are alike look the same, and make the same rows.
-use Rattle.std.proofs.Common.{◌≡◌, ◌<◌, ◌+◌, ◌-◌, ◌∙◌, ℕ, List, Bool, Some, false, length, ap, sym, subst, arith, inl, inr}
-use Rattle.std.proofs.lemmas.Bool.{cases_eq}
-use Rattle.std.proofs.lemmas.List.{length-map}
-use Rattle.std.proofs.lemmas.Option.{slice_get_within}
-use Rattle.std.specs.Prelude.{slice_get}
-use Rattle.lk_names.specs.declared.events.Act.{Act}
-use Rattle.lk_rows.specs.declared.setup.Setup.{Setup}
-use Rattle.lk_rows.specs.Machine.{Machine, CpuState, HasTop, cpu_at, depth_at, top_frame, preempted_at, halted_at, kicked_at, handlers_at}
-use Rattle.lk_rows.specs.Programs.{HasPrograms, handlers_of}
-use Rattle.lk_law.specs.Sound.{IsSound}
-use Rattle.lk_idle.specs.Alike.{AreAlike, bared, rested_frame}
+use Rattle.std.proofs.Common.{◌≡◌, ◌<◌, ◌+◌, ◌-◌, ◌∙◌, ℕ, List, Bool, Some, false, length, ap, sym}
+use Rattle.std.proofs.Common.{subst, arith, inl, inr, slice_get}
+use Rattle.lk_reach.proofs.Names.{cases_eq, length-map, slice_get_within, Act, CpuState, Machine}
+use Rattle.lk_reach.proofs.Names.{top_frame, Setup, IsSound, AreAlike, bared, rested_frame}
+use Rattle.lk_reach.proofs.Names.{IsMarkedOnly, StaysAt, IsStepped, LeadsTo, IsReached, after}
+use Rattle.lk_reach.proofs.Names.{AreGoing, Keeps, SpaceValue, IsGraph, Book, Graph, Plan}
+use Rattle.lk_rows.specs.Machine.{HasTop, cpu_at, depth_at, preempted_at, halted_at, kicked_at}
+use Rattle.lk_rows.specs.{Machine.handlers_at, Programs.{HasPrograms, handlers_of}}
 use Rattle.lk_idle.proofs.Goes.{top-bared}
-use Rattle.lk_reach.specs.declared.book.Book.{Book}
-use Rattle.lk_reach.specs.declared.graph.Graph.{Graph}
-use Rattle.lk_reach.specs.declared.plan.Plan.{Plan}
-use Rattle.lk_reach.specs.Ends.{AreEnds, IsMarkedOnly, StaysAt}
-use Rattle.lk_reach.specs.Explored.{IsStepped, LeadsTo}
-use Rattle.lk_reach.specs.Reach.{IsReached, after}
-use Rattle.lk_reach.specs.Sights.{AreGoing, LeadsOn, MayTry, sight_of}
-use Rattle.lk_reach.specs.Space.{Keeps, SpaceValue}
-use Rattle.lk_reach.specs.Told.{IsGraph}
 use Rattle.lk_reach.proofs.Closed.{reached_sound, reached_such, reached_then, same_state}
-use Rattle.lk_reach.proofs.Columns.{leads_low}
-use Rattle.lk_reach.proofs.Ending.{led}
-use Rattle.lk_reach.proofs.Folded.{laws}
-use Rattle.lk_reach.proofs.Likeness.{cpu_alike}
+use Rattle.lk_reach.proofs.{Columns.leads_low, Ending.led, Folded.laws, Likeness.cpu_alike}
+use Rattle.lk_reach.specs.{Ends.AreEnds, Sights.{LeadsOn, MayTry, sight_of}}
 
 pub sight_alike : (s t : Machine) → AreAlike s t → (p : ℕ) → sight_of s p ≡ sight_of t p
 unfolding depth_at preempted_at halted_at kicked_at handlers_at

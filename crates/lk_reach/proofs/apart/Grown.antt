@@ -1,23 +1,11 @@
 -- What is written down of an exploration grows, and what is known of it stays so.
-use Rattle.std.proofs.Common.{◌≡◌, ℕ, ◌<◌, ◌⊎◌, ◌+◌, List, [], ◌∷◌, sym, subst, length, Option, Some, inl, inr}
-use Rattle.std.specs.Prelude.{slice_get}
-use Rattle.lk_names.specs.declared.events.Act.{Act}
-use Rattle.lk_rows.specs.declared.setup.Setup.{Setup}
-use Rattle.lk_rows.specs.Machine.{Machine}
-use Rattle.lk_names.specs.declared.events.Event.{Event}
-use Rattle.lk_names.proofs.ByIndex.{get-append}
-use Rattle.lk_reach.specs.declared.book.Book.{Book}
-use Rattle.lk_reach.specs.declared.origin.Origin.{Origin}
-use Rattle.lk_reach.specs.declared.plan.Plan.{Plan}
-use Rattle.lk_reach.specs.Kinds.{kind_value}
-use Rattle.lk_reach.specs.Reach.{after}
-use Rattle.lk_reach.specs.Space.{SpaceValue, Grows, IsFront}
-use Rattle.lk_reach.specs.Explored.{AddsOrigin, Continues}
-use Rattle.lk_reach.specs.Explored.{IsAct, IsGood, IsLeft, IsMet}
-use Rattle.lk_reach.specs.Explored.{IsOrigin, IsTelling, IsTried, KeepsLike}
-use Rattle.lk_reach.specs.Explored.{Writes}
-use Rattle.lk_reach.proofs.Columns.{leads_grown}
-use Rattle.lk_reach.proofs.Kept.{front_at, front_self, keeps_grown}
+use Rattle.std.proofs.Common.{◌≡◌, ℕ, ◌<◌, ◌⊎◌, ◌+◌, List, [], ◌∷◌, sym, subst, length, Option}
+use Rattle.std.proofs.Common.{Some, inl, inr, slice_get}
+use Rattle.lk_reach.proofs.Names.{get-append, Act, Event, Machine, Setup, IsGood, IsLeft, IsOrigin}
+use Rattle.lk_reach.proofs.Names.{KeepsLike, kind_value, after, Grows, IsFront, SpaceValue, Book}
+use Rattle.lk_reach.proofs.Names.{Origin, Plan}
+use Rattle.lk_reach.proofs.{Columns.leads_grown, Kept.{front_at, front_self, keeps_grown}}
+use Rattle.lk_reach.specs.Explored.{AddsOrigin, Continues, IsAct, IsMet, IsTelling, IsTried, Writes}
 
 -- what a book adds
 pub origin_front : (xs ys : List Origin) (j : ℕ) (o : Origin) → AddsOrigin xs ys j o → IsFront xs ys

@@ -1,39 +1,25 @@
 -- What helpers find stays so, and gives the numbers that one thread alone would give.
-use Rattle.std.proofs.Common.{arith, ℕ, ◌≡◌, ◌∙◌, ◌<◌, ◌++◌, List, [], ◌∷◌, Option, Some, None, true, false, length, ap, inl, inr, refl, sym, subst}
+use Rattle.std.proofs.Common.{arith, ℕ, ◌≡◌, ◌∙◌, ◌<◌, ◌++◌, List, [], ◌∷◌, Option, Some, None}
+use Rattle.std.proofs.Common.{true, false, length, ap, inl, inr, refl, sym, subst, ◌≢◌, IfSome}
+use Rattle.std.proofs.Common.{drop, slice_get, slice_index_or, take}
 use Rattle.std.proofs.lemmas.List.{append-nil, drop_all, length-replicate, take_all}
-use Rattle.std.specs.Prelude.{◌≢◌, IfSome, drop, slice_get, slice_index_or, take}
-use Rattle.std.proofs.lemmas.Option.{slice_get_within, slice_get-get_or}
-use Rattle.lk_names.specs.declared.events.Act.{Act}
-use Rattle.lk_rows.specs.declared.setup.Setup.{Setup}
-use Rattle.lk_rows.specs.Acts.{next}
-use Rattle.lk_rows.specs.Machine.{Machine, rest_lock}
-use Rattle.lk_rows.specs.Run.{at_rest}
-use Rattle.lk_names.proofs.ByIndex.{get-append}
-use Rattle.lk_idle.specs.Alike.{AreAlike}
-use Rattle.lk_renaming.specs.Renaming.{Renaming}
-use Rattle.lk_renaming.specs.Renamed.{renamed}
-use Rattle.lk_reach.specs.declared.folding.Here.{Here}
-use Rattle.lk_reach.specs.declared.found.Finding.{Finding}
-use Rattle.lk_reach.specs.declared.found.Then.{Then}
-use Rattle.lk_reach.specs.declared.found.Then.TheVariants as then
-use Rattle.lk_reach.specs.declared.helper.Helper.{Helper}
-use Rattle.lk_reach.specs.declared.key.Key.{Key}
-use Rattle.lk_reach.specs.declared.plan.Plan.{Plan}
-use Rattle.lk_reach.specs.declared.steps.Made.{Made}
-use Rattle.lk_reach.specs.Explored.{IsGood, IsSuch}
-use Rattle.lk_reach.specs.Folded.{Fits, HaveFolds, IsHere, IsNoted, StandsFor}
-use Rattle.lk_reach.specs.Helped.{AreFound, AreFresh, AreHelpers, HasLooked, HaveKeys, IsFoldNoted, IsFound, IsFresh, IsHelper}
-use Rattle.lk_reach.specs.Helped.{IsKeyNoted, IsKnown, IsOneOf, IsSettled, LeadsThere, MayKeep, MaySettle}
-use Rattle.lk_reach.specs.Reach.{AreMoves, IsBegun, IsMove, IsReached, after, state_after}
-use Rattle.lk_reach.specs.Space.{AddsParts, Folds, Grows, IsSameKind, Keeps, KeyKeeps, SpaceValue}
-use Rattle.lk_reach.specs.Steps.{AreMade}
+use Rattle.lk_reach.proofs.Names.{slice_get-get_or, slice_get_within, get-append, Act, next}
+use Rattle.lk_reach.proofs.Names.{Machine, at_rest, Setup, AreAlike, renamed, Renaming, IsGood}
+use Rattle.lk_reach.proofs.Names.{IsSuch, Fits, HaveFolds, IsHere, IsNoted, StandsFor, AreFound}
+use Rattle.lk_reach.proofs.Names.{AreFresh, AreHelpers, LeadsThere, AreMoves, IsBegun, IsMove}
+use Rattle.lk_reach.proofs.Names.{IsReached, after, state_after, AddsParts, Folds, Grows}
+use Rattle.lk_reach.proofs.Names.{IsSameKind, Keeps, KeyKeeps, SpaceValue, AreMade, Here, Helper}
+use Rattle.lk_reach.proofs.Names.{Key, Plan, Made}
+use Rattle.lk_rows.specs.Machine.{rest_lock}
 use Rattle.lk_reach.proofs.Closed.{reached_such, reached_then, rest_cpus_of, same_state}
-use Rattle.lk_reach.proofs.Folded.{laws, stands_alike}
-use Rattle.lk_reach.proofs.apart.Grown.{like_grown}
-use Rattle.lk_reach.proofs.Kept.{key_grown, keeps_grown, one_value}
-use Rattle.lk_reach.proofs.Left.{grows_self}
+use Rattle.lk_reach.proofs.{Folded.{laws, stands_alike}, Kept.{key_grown, keeps_grown, one_value}}
+use Rattle.lk_reach.proofs.{Left.grows_self, apart.Grown.like_grown}
 use Rattle.lk_reach.proofs.apart.Noted.{fold_noted, plain_noted, same_kind}
 use Rattle.lk_reach.proofs.apart.Remembered.{made_grown}
+use Rattle.lk_reach.specs.Helped.{HasLooked, HaveKeys, IsFoldNoted, IsFound, IsFresh, IsHelper}
+use Rattle.lk_reach.specs.Helped.{IsKeyNoted, IsKnown, IsOneOf, IsSettled, MayKeep, MaySettle}
+use Rattle.lk_reach.specs.{declared.found.Finding.Finding, declared.found.Then.Then}
+use Rattle.lk_reach.specs.declared.found.Then.TheVariants as then
 
 -- nothing stands in an empty list
 none_there : {A : Type 0} → (i : ℕ) (x : A) → slice_get [] i ≡ Some x → ⊥

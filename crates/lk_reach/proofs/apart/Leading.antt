@@ -1,31 +1,18 @@
 -- Schedules, put together from their ends.
-use Rattle.std.proofs.Common.{◌≡◌, ℕ, ◌<◌, ◌≤◌, ◌+◌, List, [], ◌∷◌, refl, sym, ◌∙◌, ap, subst, ◌++◌, length, Option, Some, arith, inl, inr}
-use Rattle.std.proofs.lemmas.Option.{slice_get_within}
-use Rattle.std.proofs.lemmas.Bool.{cases_lt}
-use Rattle.std.specs.Prelude.{slice_get}
-use Rattle.lk_names.specs.declared.events.Act.{Act}
-use Rattle.lk_names.specs.declared.events.Event.{Event}
-use Rattle.lk_rows.specs.Acts.{next}
-use Rattle.lk_rows.specs.Machine.{Machine}
-use Rattle.lk_rows.specs.declared.setup.Setup.{Setup}
-use Rattle.lk_reach.specs.declared.book.Book.{Book}
-use Rattle.lk_reach.specs.declared.origin.Origin.{Origin}
-use Rattle.lk_reach.specs.declared.graph.Graph.{Graph}
-use Rattle.lk_reach.specs.declared.plan.Plan.{Plan}
-use Rattle.lk_reach.specs.Explored.{AreColumns, IsExplored, IsOrigin, IsSuch, IsTold, KeepsLike}
-use Rattle.lk_reach.specs.Reach.{AreMoves, IsBegun, IsReached, MakesRow, after, bare, cpus_of, run, start_of, state_after}
-use Rattle.lk_reach.specs.Space.{SpaceValue, Keeps}
-use Rattle.lk_reach.specs.Kinds.{kind_value}
-use Rattle.lk_reach.specs.Helped.{HaveWays}
-use Rattle.lk_reach.specs.Path.{AreLow, IsBefore, IsPath}
-use Rattle.lk_reach.specs.Told.{IsGraph, IsNever, IsShortestToEvent, IsShortestToRow, IsWay, IsWhole, Tells}
-use Rattle.lk_rows.specs.declared.parts.Pc.{Pc}
-use Rattle.lk_reach.proofs.Closed.{Laws, reached_start, reached_such, reached_then, run_bare, same_state}
-use Rattle.lk_reach.proofs.Folded.{WasTold, laws, makes_stands, steps}
-use Rattle.lk_reach.proofs.Known.{all_met, like_is, no_sooner, soon_left, whole_met}
-use Rattle.lk_names.proofs.ByIndex.{get_cases}
+use Rattle.std.proofs.Common.{◌≡◌, ℕ, ◌<◌, ◌≤◌, ◌+◌, List, [], ◌∷◌, refl, sym, ◌∙◌, ap, subst, ◌++◌}
+use Rattle.std.proofs.Common.{length, Option, Some, arith, inl, inr, slice_get}
+use Rattle.lk_reach.proofs.Names.{cases_lt, slice_get_within, get_cases, Act, Event, next, Machine}
+use Rattle.lk_reach.proofs.Names.{Pc, Setup, AreColumns, IsExplored, IsOrigin, IsSuch, KeepsLike}
+use Rattle.lk_reach.proofs.Names.{HaveWays, kind_value, IsPath, AreMoves, IsBegun, IsReached}
+use Rattle.lk_reach.proofs.Names.{MakesRow, after, bare, cpus_of, run, start_of, state_after, Keeps}
+use Rattle.lk_reach.proofs.Names.{SpaceValue, IsGraph, IsWay, IsWhole, Book, Graph, Origin, Plan}
+use Rattle.lk_reach.proofs.Closed.{Laws, reached_start, reached_such, reached_then, run_bare}
+use Rattle.lk_reach.proofs.{Closed.same_state, Folded.{WasTold, laws, makes_stands, steps}}
 use Rattle.lk_reach.proofs.Kept.{one_value}
+use Rattle.lk_reach.proofs.Known.{all_met, like_is, no_sooner, soon_left, whole_met}
 use Rattle.lk_reach.proofs.Left.{none_there}
+use Rattle.lk_reach.specs.{Explored.IsTold, Path.{AreLow, IsBefore}}
+use Rattle.lk_reach.specs.Told.{IsNever, IsShortestToEvent, IsShortestToRow, Tells}
 
 -- these acts lead from the state of the one number to that of the other
 pub record LeadsOn (g : Graph) (j k : ℕ) (acts : List Act) : Type 0 where

@@ -1,11 +1,9 @@
 -- The marks of rows, one by one.
-use Rattle.std.proofs.Common.{◌≡◌, ℕ, Bool, true, false, List, [], length, Some, sym, subst, inl, inr}
-use Rattle.std.specs.Prelude.{slice_get}
-use Rattle.lk_names.proofs.ByIndex.{get-append}
-use Rattle.lk_rows.specs.declared.parts.Pc.{Pc}
-use Rattle.lk_reach.specs.Space.{SpaceValue}
-use Rattle.lk_reach.specs.Rows.{IsMade, IsUnmade, AreMarked, HasMarked}
+use Rattle.std.proofs.Common.{◌≡◌, ℕ, Bool, true, false, List, [], length, Some, sym, subst, inl}
+use Rattle.std.proofs.Common.{inr, slice_get}
+use Rattle.lk_reach.proofs.Names.{get-append, Pc, AreMarked, SpaceValue}
 use Rattle.lk_reach.proofs.Kept.{one_value}
+use Rattle.lk_reach.specs.Rows.{IsMade, IsUnmade, HasMarked}
 
 -- no mark says nothing
 pub none_marked : (v : SpaceValue) (cpus : ℕ) (rows : List Pc) → AreMarked v cpus rows []

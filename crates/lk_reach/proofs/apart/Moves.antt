@@ -1,16 +1,11 @@
 -- The acts that are explored, put together one by one.
-use Rattle.std.proofs.Common.{◌≡◌, ℕ, zero, suc, ◌<◌, ◌+◌, Bool, true, false, List, [], ◌∷◌, ◌++◌, refl, sym, subst, length, Some, arith, inl, inr, ◌⊎◌}
-use Rattle.std.proofs.lemmas.Bool.{cases_eq}
-use Rattle.std.specs.Prelude.{not, slice_get}
-use Rattle.lk_names.specs.declared.events.Act.{Act}
-use Rattle.lk_names.specs.declared.events.Act.TheVariants as act
-use Rattle.lk_rows.specs.declared.setup.Setup.{Setup}
+use Rattle.std.proofs.Common.{◌≡◌, ℕ, zero, suc, ◌<◌, ◌+◌, Bool, true, false, List, [], ◌∷◌, ◌++◌}
+use Rattle.std.proofs.Common.{refl, sym, subst, length, Some, arith, inl, inr, ◌⊎◌, not, slice_get}
+use Rattle.lk_reach.proofs.Names.{cases_eq, Act, Setup, Among, AreAllMoves, OnlyMoves, IsMove}
+use Rattle.lk_reach.proofs.Names.{cpus_of, IsFront, Extras}
 use Rattle.lk_rows.specs.Programs.{handlers_of}
-use Rattle.lk_reach.specs.declared.plan.Extras.{Extras}
-use Rattle.lk_reach.specs.Reach.{IsMove, cpus_of}
-use Rattle.lk_reach.specs.Space.{IsFront}
-use Rattle.lk_reach.specs.Explored.{Among, OnlyMoves, AreAllMoves}
 use Rattle.lk_reach.proofs.Kept.{front_get, front_at, front_then}
+use Rattle.lk_names.specs.declared.events.Act.TheVariants as act
 
 -- what is not left out is asked for
 pub is_asked : (b : Bool) → not b ≡ false → b ≡ true

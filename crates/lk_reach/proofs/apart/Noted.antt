@@ -1,24 +1,16 @@
 -- How states are noted that stand for others.
-use Rattle.std.proofs.Common.{◌≡◌, ◌≢◌, ◌<◌, ◌≤◌, ℕ, true, false, zero, suc, List, [], ◌∷◌, ap, refl, sym, ◌∙◌, subst, length, Some, arith, inl, inr}
-use Rattle.std.specs.Prelude.{slice_get, take}
-use Rattle.std.proofs.lemmas.Bool.{cases_lt}
-use Rattle.lk_names.specs.declared.events.Act.{Act}
-use Rattle.lk_rows.specs.declared.setup.Setup.{Setup}
-use Rattle.lk_rows.specs.Machine.{Machine}
-use Rattle.lk_idle.specs.Alike.{AreAlike}
-use Rattle.lk_renaming.specs.Renaming.{Renaming}
-use Rattle.lk_renaming.specs.Renamed.{renamed, renamed_act}
-use Rattle.lk_reach.specs.declared.folding.Here.{Here}
-use Rattle.lk_reach.specs.declared.key.Key.{Key}
-use Rattle.lk_reach.specs.declared.plan.Extras.{Extras}
-use Rattle.lk_reach.specs.declared.plan.Plan.{Plan}
-use Rattle.lk_reach.specs.Explored.{IsSuch}
-use Rattle.lk_reach.specs.Folded.{Fits, HasFold, HaveFolds, IsBehind, IsHere, IsNoted, IsRenumbered, StandsFor}
-use Rattle.lk_reach.specs.Reach.{AreMoves, IsBegun, IsMove, IsReached, after, bare, run, start_of}
-use Rattle.lk_reach.specs.Space.{AddsParts, Folds, Grows, IsSameKind, Keeps, KeyKeeps, SpaceValue}
+use Rattle.std.proofs.Common.{◌≡◌, ◌≢◌, ◌<◌, ◌≤◌, ℕ, true, false, zero, suc, List, [], ◌∷◌, ap}
+use Rattle.std.proofs.Common.{refl, sym, ◌∙◌, subst, length, Some, arith, inl, inr, slice_get, take}
+use Rattle.lk_reach.proofs.Names.{cases_lt, Act, Machine, Setup, AreAlike, renamed, renamed_act}
+use Rattle.lk_reach.proofs.Names.{Renaming, IsSuch, Fits, HaveFolds, IsBehind, IsHere, IsNoted}
+use Rattle.lk_reach.proofs.Names.{StandsFor, AreMoves, IsBegun, IsMove, IsReached, after, bare, run}
+use Rattle.lk_reach.proofs.Names.{start_of, AddsParts, Folds, Grows, IsSameKind, Keeps, KeyKeeps}
+use Rattle.lk_reach.proofs.Names.{SpaceValue, Here, Key, Extras, Plan}
 use Rattle.lk_reach.proofs.Closed.{reached_start, reached_such, reached_then, run_bare, same_state}
-use Rattle.lk_reach.proofs.Folded.{after_renamed, laws, not_both, own_fits, own_numbers, own_same, reached_renamed, stands_alike, stands_back, stands_then}
+use Rattle.lk_reach.proofs.Folded.{after_renamed, laws, not_both, own_fits, own_numbers, own_same}
+use Rattle.lk_reach.proofs.Folded.{reached_renamed, stands_alike, stands_back, stands_then}
 use Rattle.lk_reach.proofs.Kept.{front_at, key_grown, keeps_grown}
+use Rattle.lk_reach.specs.Folded.{HasFold, IsRenumbered}
 
 -- acts, one by one
 

@@ -1,21 +1,13 @@
 -- Orders of processors that are alike fit.
-use Rattle.std.proofs.Common.{◌≡◌, ◌<◌, ◌≤◌, ℕ, zero, suc, true, get_or, List, [], ◌∷◌, ap, refl, sym, ◌∙◌, arith, inl, inr}
-use Rattle.std.specs.Prelude.{slice_index_or}
-use Rattle.std.proofs.lemmas.Bool.{cases_lt}
-use Rattle.lk_rows.specs.declared.setup.Setup.{Setup}
+use Rattle.std.proofs.Common.{◌≡◌, ◌<◌, ◌≤◌, ℕ, zero, suc, true, get_or, List, [], ◌∷◌, ap, refl}
+use Rattle.std.proofs.Common.{sym, ◌∙◌, arith, inl, inr, slice_index_or}
+use Rattle.lk_reach.proofs.Names.{cases_lt, Act, at_rest, machine_after, Setup, renamed, Renaming}
+use Rattle.lk_reach.proofs.Names.{Fits, IsPlaced, renaming_of, IsBegun, cpus_of, start_of, Plan}
 use Rattle.lk_rows.specs.Programs.{handlers_of, program_at}
-use Rattle.lk_renaming.specs.Renaming.{IsFitting, Renaming}
-use Rattle.lk_renaming.specs.Renamed.{renamed}
 use Rattle.lk_renaming.proofs.Runs.{schedules_run_renamed}
-use Rattle.lk_reach.specs.declared.order.Order.{Order}
-use Rattle.lk_reach.specs.declared.plan.Plan.{Plan}
-use Rattle.lk_reach.specs.Folded.{Fits}
-use Rattle.lk_reach.specs.Order.{AreOwn, IsPlaced, renaming_of}
-use Rattle.lk_reach.specs.Peers.{AreFirsts, number_of}
-use Rattle.lk_reach.specs.Reach.{IsBegun, cpus_of, start_of}
+use Rattle.lk_renaming.specs.Renaming.{IsFitting}
 use Rattle.lk_reach.proofs.apart.Alike.{number_low, number_past}
-use Rattle.lk_rows.specs.Run.{at_rest, machine_after}
-use Rattle.lk_names.specs.declared.events.Act.{Act}
+use Rattle.lk_reach.specs.{Order.AreOwn, Peers.{AreFirsts, number_of}, declared.order.Order.Order}
 
 -- each processor keeps its number
 own_low : (p : ℕ) → p < 8 → get_or (0 ∷ 1 ∷ 2 ∷ 3 ∷ 4 ∷ 5 ∷ 6 ∷ 7 ∷ []) p p ≡ p

@@ -1,30 +1,20 @@
 -- A step that was made leads from each state with the parts that it touches to the same parts.
 use Rattle.std.proofs.Common.{arith, ℕ, ◌≡◌, ◌∙◌, ◌<◌, ◌*◌, List, Option, Some, length, get_or, set}
-use Rattle.std.proofs.Common.{ap, inl, inr, sym, subst, length-set, get_or-set_same, get_or-set_other}
-use Rattle.std.proofs.lemmas.Bool.{cases_eq}
+use Rattle.std.proofs.Common.{ap, inl, inr, sym, subst, length-set, get_or-set_same}
+use Rattle.std.proofs.Common.{get_or-set_other, slice_get}
 use Rattle.std.proofs.lemmas.List.{set-get_or}
-use Rattle.std.proofs.lemmas.Option.{slice_get_within}
-use Rattle.std.specs.Prelude.{slice_get}
 use Rattle.std.specs.Int.{IsNextPowerOfTwo}
-use Rattle.lk_names.specs.declared.events.Act.{Act}
+use Rattle.lk_reach.proofs.Names.{cases_eq, slice_get_within, Act, next, processor_of, CpuState}
+use Rattle.lk_reach.proofs.Names.{Machine, no_cpu, Answer, Setup, SharedValue, Touches, IsSuch}
+use Rattle.lk_reach.proofs.Names.{after, bare, Grows, Keeps, KeyKeeps, SpaceValue, AreMade, Key}
+use Rattle.lk_reach.proofs.Names.{Made}
 use Rattle.lk_names.specs.declared.events.Act.TheVariants.{Step}
-use Rattle.lk_rows.specs.declared.setup.Setup.{Setup}
-use Rattle.lk_rows.specs.Acts.{next, processor_of}
-use Rattle.lk_rows.specs.Machine.{Machine, CpuState, cpu_at, no_cpu}
-use Rattle.lk_rows.specs.Row.{Answer}
-use Rattle.lk_machine.specs.Parts.{SharedValue}
-use Rattle.lk_touch.specs.Touching.{Touches, among, with_both}
+use Rattle.lk_rows.specs.Machine.{cpu_at}
 use Rattle.lk_touch.proofs.TouchedRows.{steps_stay_among}
-use Rattle.lk_reach.specs.declared.key.Key.{Key}
-use Rattle.lk_reach.specs.declared.spot.Led.{Led}
-use Rattle.lk_reach.specs.declared.spot.Spot.{Spot}
-use Rattle.lk_reach.specs.declared.steps.Made.{Made}
-use Rattle.lk_reach.specs.Explored.{IsSuch}
-use Rattle.lk_reach.specs.Reach.{after, bare}
-use Rattle.lk_reach.specs.Space.{Grows, Keeps, KeyKeeps, SpaceValue}
-use Rattle.lk_reach.specs.Steps.{AreMade, Begins, HasParts, IsLed, IsMadeOn, IsRemembered, IsSpot}
-use Rattle.lk_reach.specs.Steps.{WasMade, then_key}
+use Rattle.lk_touch.specs.Touching.{among, with_both}
 use Rattle.lk_reach.proofs.Kept.{front_at, one_value, same_machine, set_other, set_same}
+use Rattle.lk_reach.specs.Steps.{Begins, HasParts, IsLed, IsMadeOn, IsRemembered, IsSpot, WasMade}
+use Rattle.lk_reach.specs.{Steps.then_key, declared.spot.Led.Led, declared.spot.Spot.Spot}
 
 -- the parts that a step touches stay what they are when more is met
 parts_grown : (v w : SpaceValue) → Grows v w → (p q i j k : ℕ) (m : Machine) → HasParts v p q i j k m → HasParts w p q i j k m

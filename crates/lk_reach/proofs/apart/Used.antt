@@ -1,19 +1,13 @@
 -- Which parts the states have, and which rows they make by them.
-use Rattle.std.proofs.Common.{◌≡◌, ◌<◌, ◌+◌, ◌++◌, ◌∷◌, [], ℕ, zero, suc, Bool, true, false, List, length, replicate, refl, Some, arith, ap, ◌∙◌, inl, inr, subst, sym}
-use Rattle.std.proofs.lemmas.Bool.{cases_eq}
+use Rattle.std.proofs.Common.{◌≡◌, ◌<◌, ◌+◌, ◌++◌, ◌∷◌, [], ℕ, zero, suc, Bool, true, false, List}
+use Rattle.std.proofs.Common.{length, replicate, refl, Some, arith, ap, ◌∙◌, inl, inr, subst, sym}
+use Rattle.std.proofs.Common.{slice_get}
 use Rattle.std.proofs.lemmas.List.{length-replicate}
-use Rattle.std.proofs.lemmas.Option.{slice_get_within}
-use Rattle.std.specs.Prelude.{slice_get}
-use Rattle.lk_names.proofs.ByIndex.{get-append_new}
-use Rattle.lk_rows.specs.Machine.{CpuState, cpu_at}
-use Rattle.lk_rows.specs.declared.parts.Pc.{Pc}
-use Rattle.lk_machine.specs.Parts.{row_of}
-use Rattle.lk_reach.specs.declared.key.Key.{Key}
-use Rattle.lk_reach.specs.Ends.{IsMarkedOnly}
-use Rattle.lk_reach.specs.Rows.{AreUsed, AreUsedNow, IsMade, IsUnmade, MakesMarked}
-use Rattle.lk_reach.specs.Space.{SpaceValue}
-use Rattle.lk_reach.proofs.Ending.{some_mark}
-use Rattle.lk_reach.proofs.Kept.{key_there, one_value, part_there}
+use Rattle.lk_reach.proofs.Names.{cases_eq, slice_get_within, get-append_new, CpuState, Pc, row_of}
+use Rattle.lk_reach.proofs.Names.{IsMarkedOnly, AreUsed, SpaceValue, Key}
+use Rattle.lk_rows.specs.Machine.{cpu_at}
+use Rattle.lk_reach.proofs.{Ending.some_mark, Kept.{key_there, one_value, part_there}}
+use Rattle.lk_reach.specs.Rows.{AreUsedNow, IsMade, IsUnmade, MakesMarked}
 
 -- of marks that are not set none is
 none_set : (n i : ℕ) → slice_get (replicate n false) i ≡ Some true → ⊥

@@ -1,5 +1,4 @@
-use Rattle.std.proofs.Common.{arith, ◌≡◌, [], ℕ, List, Some, ap, subst, length}
-use Rattle.std.specs.Prelude.{slice_get}
+use Rattle.std.proofs.Common.{arith, ◌≡◌, [], ℕ, List, Some, ap, subst, length, slice_get}
 use Rattle.lk_reach.proofs.Columns.{empty_more}
 use Rattle.lk_reach.proofs.book.no_thens.Goals as goal
 

@@ -1,5 +1,5 @@
 use Rattle.std.proofs.Common.{sym, subst}
-use Rattle.lk_rows.specs.Programs.{IsLawfulSetup}
+use Rattle.lk_reach.proofs.Names.{IsLawfulSetup}
 use Rattle.lk_reach.proofs.apart.Copied.{same_setup, tight_lawful}
 use Rattle.lk_reach.proofs.copies.copy_of.Goals as goal
 

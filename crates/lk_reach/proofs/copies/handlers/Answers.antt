@@ -1,6 +1,5 @@
-use Rattle.std.proofs.Common.{◌∙◌, ◌++◌, [], ◌∷◌, map, ap, sym}
-use Rattle.std.specs.Prelude.{take}
-use Rattle.lk_reach.specs.Copies.{tight_lists}
+use Rattle.std.proofs.Common.{◌∙◌, ◌++◌, [], ◌∷◌, map, ap, sym, take}
+use Rattle.lk_reach.proofs.Names.{tight_lists}
 use Rattle.lk_reach.proofs.apart.Copied.{copied_next}
 use Rattle.lk_reach.proofs.copies.handlers.Goals as goal
 

@@ -1,6 +1,5 @@
-use Rattle.std.proofs.Common.{◌≡◌, length, map}
-use Rattle.std.specs.Prelude.{take}
-use Rattle.lk_reach.specs.Copies.{tight_lists}
+use Rattle.std.proofs.Common.{◌≡◌, length, map, take}
+use Rattle.lk_reach.proofs.Names.{tight_lists}
 use Rattle.lk_reach.proofs.copies.handlers.Given as goal
 
 -- so many were copied

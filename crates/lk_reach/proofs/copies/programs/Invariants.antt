@@ -1,6 +1,5 @@
-use Rattle.std.proofs.Common.{◌≡◌, length, map}
-use Rattle.std.specs.Prelude.{take}
-use Rattle.lk_reach.specs.Copies.{tight}
+use Rattle.std.proofs.Common.{◌≡◌, length, map, take}
+use Rattle.lk_reach.proofs.Names.{tight}
 use Rattle.lk_reach.proofs.copies.programs.Given as goal
 
 -- so many were copied

@@ -1,5 +1,5 @@
 use Rattle.std.proofs.Common.{arith, ℕ, ap, sym, subst}
-use Rattle.lk_rows.specs.Machine.{top_frame}
+use Rattle.lk_reach.proofs.Names.{top_frame}
 use Rattle.lk_reach.specs.Deeds.{IsThat}
 use Rattle.lk_reach.proofs.deeds.is_sought.Goals as goal
 

@@ -1,11 +1,6 @@
 use Rattle.std.proofs.Common.{arith, List, ap, ◌≡◌, ◌≤◌, ◌∙◌, length, refl, sym, subst}
-use Rattle.lk_rows.specs.declared.setup.Setup.{Setup}
-use Rattle.lk_rows.specs.Machine.{Machine}
-use Rattle.lk_reach.specs.declared.helper.Helper.{Helper}
-use Rattle.lk_reach.specs.Explored.{IsExplored, IsSuch}
-use Rattle.lk_reach.specs.Helped.{AreFresh, AreHelpers}
-use Rattle.lk_reach.specs.Reach.{IsBegun, IsReached, bare, cpus_of, start_of}
-use Rattle.lk_reach.specs.Space.{Keeps}
+use Rattle.lk_reach.proofs.Names.{Machine, Setup, IsExplored, IsSuch, AreFresh, AreHelpers, IsBegun}
+use Rattle.lk_reach.proofs.Names.{IsReached, bare, cpus_of, start_of, Keeps, Helper}
 use Rattle.lk_reach.proofs.Left as left
 use Rattle.lk_reach.proofs.Closed as closed
 use Rattle.lk_reach.proofs.apart.Helped as helped

@@ -1,14 +1,8 @@
-use Rattle.std.proofs.Common.{◌≡◌, ◌∙◌, ap, List, ℕ, Some, sym, subst}
-use Rattle.std.specs.Prelude.{slice_get}
-use Rattle.lk_rows.specs.declared.setup.Setup.{Setup}
-use Rattle.lk_rows.specs.Machine.{Machine}
-use Rattle.lk_reach.specs.declared.helper.Helper.{Helper}
-use Rattle.lk_reach.specs.Helped.{AreHelpers}
-use Rattle.lk_reach.specs.Reach.{IsReached}
-use Rattle.lk_reach.specs.declared.steps.Steps.{Steps}
-use Rattle.lk_reach.specs.Steps.{AreMade}
-use Rattle.lk_reach.proofs.apart.Helped as helped
+use Rattle.std.proofs.Common.{◌≡◌, ◌∙◌, ap, List, ℕ, Some, sym, subst, slice_get}
+use Rattle.lk_reach.proofs.Names.{Machine, Setup, AreHelpers, IsReached, AreMade, Helper}
 use Rattle.lk_reach.proofs.apart.Remembered.{made_grown}
+use Rattle.lk_reach.specs.declared.steps.Steps.{Steps}
+use Rattle.lk_reach.proofs.apart.Helped as helped
 use Rattle.lk_reach.proofs.exploring.lead.Goals as goal
 
 pub settle-requires : goal.settle-requires

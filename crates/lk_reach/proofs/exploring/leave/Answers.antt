@@ -1,19 +1,10 @@
 use Rattle.std.proofs.Common.{arith, ℕ, ◌≡◌, ◌∙◌, List, get_or, Some, length, ap, refl, sym, subst}
-use Rattle.std.specs.Prelude.{slice_get}
-use Rattle.std.proofs.lemmas.Option.{slice_get-get_or}
-use Rattle.lk_names.specs.declared.events.Act.{Act}
+use Rattle.std.proofs.Common.{slice_get}
+use Rattle.lk_reach.proofs.Names.{slice_get-get_or, Act, Machine, Setup, IsGood, IsSuch, OnlyMoves}
+use Rattle.lk_reach.proofs.Names.{IsHere, IsNoted, AreHelpers, IsPath, AreMoves, IsReached, after}
+use Rattle.lk_reach.proofs.Names.{state_after, Keeps, AreMade}
+use Rattle.lk_reach.proofs.{Kept.{front_at, keeps_grown}, apart.Helped.{if_some, is_here}}
 use Rattle.lk_names.specs.declared.events.Act.TheVariants as act
-use Rattle.lk_rows.specs.declared.setup.Setup.{Setup}
-use Rattle.lk_rows.specs.Machine.{Machine}
-use Rattle.lk_reach.specs.Explored.{IsGood, IsSuch, OnlyMoves}
-use Rattle.lk_reach.specs.Folded.{IsHere, IsNoted}
-use Rattle.lk_reach.specs.Helped.{AreHelpers}
-use Rattle.lk_reach.specs.Path.{IsPath}
-use Rattle.lk_reach.specs.Reach.{AreMoves, IsReached, after, state_after}
-use Rattle.lk_reach.specs.Space.{Keeps}
-use Rattle.lk_reach.specs.Steps.{AreMade}
-use Rattle.lk_reach.proofs.Kept.{front_at, keeps_grown}
-use Rattle.lk_reach.proofs.apart.Helped.{if_some, is_here}
 use Rattle.lk_reach.proofs.apart.Leading as leading
 use Rattle.lk_reach.proofs.Left as left
 use Rattle.lk_reach.proofs.Columns as columns

@@ -1,10 +1,7 @@
-use Rattle.std.proofs.Common.{◌≡◌, Some, length}
-use Rattle.std.specs.Prelude.{IfSome, slice_get}
-use Rattle.lk_reach.specs.Explored.{AreColumns, IsSuch, IsExplored, IsHalfLeft}
-use Rattle.lk_reach.specs.Helped.{AreHelpers}
-use Rattle.lk_reach.specs.Reach.{AreMoves, state_after}
-use Rattle.lk_reach.specs.Space.{Keeps}
-use Rattle.lk_reach.specs.Steps.{AreMade}
+use Rattle.std.proofs.Common.{◌≡◌, Some, length, IfSome, slice_get}
+use Rattle.lk_reach.proofs.Names.{AreColumns, IsExplored, IsSuch, AreHelpers, AreMoves, state_after}
+use Rattle.lk_reach.proofs.Names.{Keeps, AreMade}
+use Rattle.lk_reach.specs.Explored.{IsHalfLeft}
 use Rattle.lk_reach.proofs.exploring.leave.Given as goal
 
 -- the acts so far were tried on the state

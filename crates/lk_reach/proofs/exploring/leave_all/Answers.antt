@@ -1,14 +1,8 @@
 use Rattle.std.proofs.Common.{arith, ◌∙◌, ◌+◌, ap, length, sym, subst}
-use Rattle.std.proofs.lemmas.Option.{slice_get_within}
-use Rattle.lk_rows.specs.declared.setup.Setup.{Setup}
-use Rattle.lk_rows.specs.Machine.{Machine}
-use Rattle.lk_reach.specs.declared.steps.Steps.{Steps}
-use Rattle.lk_reach.specs.Explored.{IsExplored, IsSuch}
-use Rattle.lk_reach.specs.Helped.{AreHelpers, HaveWays, MayLook}
-use Rattle.lk_reach.specs.Reach.{IsBegun}
-use Rattle.lk_reach.specs.Space.{SpaceValue}
-use Rattle.lk_reach.specs.Steps.{AreMade}
+use Rattle.lk_reach.proofs.Names.{slice_get_within, Machine, Setup, IsExplored, IsSuch, AreHelpers}
+use Rattle.lk_reach.proofs.Names.{HaveWays, MayLook, IsBegun, SpaceValue, AreMade}
 use Rattle.lk_reach.proofs.apart.Leading.{ways_of}
+use Rattle.lk_reach.specs.declared.steps.Steps.{Steps}
 use Rattle.lk_reach.proofs.exploring.leave_all.Goals as goal
 
 pub look_ahead-requires-clause-may : goal.look_ahead-requires-clause-may

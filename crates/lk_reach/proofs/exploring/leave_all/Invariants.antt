@@ -1,7 +1,5 @@
 use Rattle.std.proofs.Common.{◌≡◌, ◌≤◌, length}
-use Rattle.lk_reach.specs.Explored.{AreColumns, IsSuch, IsExplored}
-use Rattle.lk_reach.specs.Helped.{AreHelpers}
-use Rattle.lk_reach.specs.Steps.{AreMade}
+use Rattle.lk_reach.proofs.Names.{AreColumns, IsExplored, IsSuch, AreHelpers, AreMade}
 use Rattle.lk_reach.proofs.exploring.leave_all.Given as goal
 
 -- the states before this one are left

@@ -1,5 +1,5 @@
 use Rattle.std.proofs.Common.{arith}
-use Rattle.lk_reach.specs.Space.{Keeps}
+use Rattle.lk_reach.proofs.Names.{Keeps}
 use Rattle.lk_reach.proofs.Kept.{keeps_grown}
 use Rattle.lk_reach.proofs.exploring.note_first.Goals as goal
 

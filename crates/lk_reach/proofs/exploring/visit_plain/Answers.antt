@@ -1,26 +1,13 @@
 use Rattle.std.proofs.Common.{◌≡◌, List, Option, ap, arith, length, refl, false, ℕ}
-use Rattle.lk_names.specs.declared.events.Act.{Act}
-use Rattle.lk_names.specs.declared.events.Event.{Event}
-use Rattle.lk_rows.specs.declared.setup.Setup.{Setup}
-use Rattle.lk_rows.specs.Acts.{next}
-use Rattle.lk_rows.specs.Machine.{Machine}
-use Rattle.lk_reach.specs.declared.folding.Here.{Here}
-use Rattle.lk_reach.specs.declared.key.Key.{Key}
-use Rattle.lk_reach.specs.declared.plan.Plan.{Plan}
+use Rattle.lk_reach.proofs.Names.{Act, Event, next, Machine, Setup, IsSuch, IsHere, IsNoted}
+use Rattle.lk_reach.proofs.Names.{IsBegun, IsMove, IsReached, after, AddsParts, Keeps, KeyKeeps}
+use Rattle.lk_reach.proofs.Names.{SpaceValue, AreMade, Here, Key, Plan, Made}
+use Rattle.lk_reach.proofs.{Kept.{keeps_grown, key_grown}, Left.{grows_self, grows_then}}
+use Rattle.lk_reach.proofs.{apart.Noted.plain_noted, apart.Remembered.{made_grown, remembered_led}}
+use Rattle.lk_reach.specs.{Helped.IsKeyNoted, Steps.{IsLed, IsRemembered, IsSpot, then_key}}
 use Rattle.lk_reach.specs.declared.spot.Led.{Led}
-use Rattle.lk_reach.specs.declared.steps.Made.{Made}
-use Rattle.lk_reach.specs.Explored.{IsSuch}
-use Rattle.lk_reach.specs.Folded.{IsHere, IsNoted}
-use Rattle.lk_reach.specs.Helped.{IsKeyNoted}
-use Rattle.lk_reach.specs.Reach.{IsBegun, IsMove, IsReached, after}
-use Rattle.lk_reach.specs.Space.{AddsParts, Keeps, KeyKeeps, SpaceValue}
-use Rattle.lk_reach.specs.Steps.{AreMade, IsLed, IsRemembered, IsSpot, then_key}
 use Rattle.lk_reach.proofs.Closed as closed
 use Rattle.lk_reach.proofs.Folded as folded
-use Rattle.lk_reach.proofs.Kept.{keeps_grown, key_grown}
-use Rattle.lk_reach.proofs.Left.{grows_self, grows_then}
-use Rattle.lk_reach.proofs.apart.Noted.{plain_noted}
-use Rattle.lk_reach.proofs.apart.Remembered.{made_grown, remembered_led}
 use Rattle.lk_reach.proofs.exploring.visit_plain.Goals as goal
 
 -- the state that is left

@@ -1,14 +1,10 @@
 use Rattle.std.proofs.Common.{◌≡◌, ◌≤◌, List, ap, arith, length, subst, sym}
-use Rattle.std.proofs.lemmas.Option.{slice_get_within}
-use Rattle.lk_rows.specs.Machine.{Machine}
-use Rattle.lk_reach.specs.declared.key.Key.{Key}
-use Rattle.lk_reach.specs.Explored.{IsSuch}
-use Rattle.lk_reach.specs.Folded.{IsBehind, IsHere, IsRenumbered}
-use Rattle.lk_reach.specs.Reach.{IsMove, after}
-use Rattle.lk_reach.specs.Space.{Keeps}
+use Rattle.lk_reach.proofs.Names.{slice_get_within, Machine, IsSuch, IsBehind, IsHere, IsMove}
+use Rattle.lk_reach.proofs.Names.{after, Keeps, Key}
+use Rattle.lk_reach.proofs.Kept.{keeps_grown}
+use Rattle.lk_reach.specs.Folded.{IsRenumbered}
 use Rattle.lk_reach.proofs.Closed as closed
 use Rattle.lk_reach.proofs.Folded as folded
-use Rattle.lk_reach.proofs.Kept.{keeps_grown}
 use Rattle.lk_reach.proofs.Left as left
 use Rattle.lk_reach.proofs.apart.Noted as noted
 use Rattle.lk_reach.proofs.folding.fold.Goals as goal

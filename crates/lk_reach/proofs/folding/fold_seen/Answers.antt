@@ -1,6 +1,5 @@
 use Rattle.std.proofs.Common.{ℕ, arith, subst, sym}
-use Rattle.lk_reach.specs.Explored.{IsGood}
-use Rattle.lk_reach.specs.Space.{Keeps}
+use Rattle.lk_reach.proofs.Names.{IsGood, Keeps}
 use Rattle.lk_reach.proofs.apart.Helped as helped
 use Rattle.lk_reach.proofs.apart.Noted as noted
 use Rattle.lk_reach.proofs.folding.fold_seen.Goals as goal

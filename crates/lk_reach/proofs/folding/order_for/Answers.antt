@@ -1,7 +1,6 @@
 use Rattle.std.proofs.Common.{ℕ, arith, subst}
-use Rattle.lk_reach.specs.Order.{IsPlaced}
+use Rattle.lk_reach.proofs.Names.{IsPlaced, cpus_of}
 use Rattle.lk_reach.proofs.apart.Orders.{fits_at_rest, own_fitting, placed_fitting}
-use Rattle.lk_reach.specs.Reach.{cpus_of}
 use Rattle.lk_reach.proofs.folding.order_for.Goals as goal
 
 pub returns-then-fits : goal.returns-then-fits

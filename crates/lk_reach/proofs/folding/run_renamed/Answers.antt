@@ -1,14 +1,6 @@
-use Rattle.std.proofs.Common.{◌≡◌, ◌<◌, ◌+◌, ◌∙◌, suc, ap, arith, length, subst, sym}
-use Rattle.std.specs.Prelude.{take}
-use Rattle.lk_names.specs.declared.events.Act.{Act}
-use Rattle.lk_law.specs.Sound.{IsSound}
-use Rattle.lk_rows.specs.Acts.{processor_of}
-use Rattle.lk_rows.specs.Machine.{Machine}
-use Rattle.lk_rows.specs.declared.setup.Setup.{Setup}
-use Rattle.lk_renaming.specs.Renamed.{renamed, renamed_act}
-use Rattle.lk_reach.specs.Explored.{IsSuch}
-use Rattle.lk_reach.specs.Order.{renaming_of}
-use Rattle.lk_reach.specs.Reach.{after, bare, run, start_of}
+use Rattle.std.proofs.Common.{◌≡◌, ◌<◌, ◌+◌, ◌∙◌, suc, ap, arith, length, subst, sym, take}
+use Rattle.lk_reach.proofs.Names.{Act, processor_of, Machine, Setup, IsSound, renamed, renamed_act}
+use Rattle.lk_reach.proofs.Names.{IsSuch, renaming_of, after, bare, run, start_of}
 use Rattle.lk_reach.proofs.Closed as closed
 use Rattle.lk_reach.proofs.Folded as folded
 use Rattle.lk_reach.proofs.Left as left

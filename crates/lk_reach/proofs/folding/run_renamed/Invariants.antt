@@ -1,8 +1,5 @@
-use Rattle.std.proofs.Common.{◌≡◌}
-use Rattle.std.specs.Prelude.{take}
-use Rattle.lk_renaming.specs.Renamed.{renamed}
-use Rattle.lk_reach.specs.Order.{renaming_of}
-use Rattle.lk_reach.specs.Reach.{bare, run, start_of}
+use Rattle.std.proofs.Common.{◌≡◌, take}
+use Rattle.lk_reach.proofs.Names.{renamed, renaming_of, bare, run, start_of}
 use Rattle.lk_reach.proofs.folding.run_renamed.Given as goal
 
 -- the machine is the state behind the acts so far, under new numbers

@@ -1,6 +1,6 @@
 use Rattle.std.proofs.Common.{arith, ap, ◌∙◌}
-use Rattle.lk_rows.specs.Machine.{CpuState, set_cpu}
-use Rattle.lk_idle.specs.Alike.{bared_cpu}
+use Rattle.lk_reach.proofs.Names.{CpuState, bared_cpu}
+use Rattle.lk_rows.specs.Machine.{set_cpu}
 use Rattle.lk_reach.proofs.Formed.{rests_alike, rests_back, rests_count, rests_then}
 use Rattle.lk_reach.proofs.forms.form_number.Goals as goal
 

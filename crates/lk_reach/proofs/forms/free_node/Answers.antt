@@ -1,7 +1,7 @@
 use Rattle.std.proofs.Common.{ap, ◌∙◌, false, subst, sym}
-use Rattle.lk_rows.specs.Machine.{Machine, set_node}
+use Rattle.lk_reach.proofs.Names.{Machine, Rests}
+use Rattle.lk_rows.specs.Machine.{set_node}
 use Rattle.lk_idle.specs.Free.{freed_node}
-use Rattle.lk_reach.specs.Space.{Rests}
 use Rattle.lk_reach.proofs.Formed.{rests_node, rests_self}
 use Rattle.lk_reach.proofs.forms.free_node.Goals as goal
 

@@ -1,4 +1,4 @@
-use Rattle.lk_reach.specs.Space.{Rests}
+use Rattle.lk_reach.proofs.Names.{Rests}
 use Rattle.lk_reach.proofs.forms.free_nodes.Given as goal
 
 -- the part differs in what nobody reads alone

@@ -1,7 +1,6 @@
 use Rattle.std.proofs.Common.{ap, ◌∙◌, subst, sym}
-use Rattle.lk_rows.specs.Machine.{Machine, set_top}
-use Rattle.lk_idle.specs.Alike.{rested_frame}
-use Rattle.lk_reach.specs.Space.{Rests}
+use Rattle.lk_reach.proofs.Names.{Machine, rested_frame, Rests}
+use Rattle.lk_rows.specs.Machine.{set_top}
 use Rattle.lk_reach.proofs.Formed.{rests_self, rests_top}
 use Rattle.lk_reach.proofs.forms.rest_top.Goals as goal
 

@@ -1,6 +1,5 @@
 use Rattle.std.proofs.Common.{arith, ◌≡◌, ℕ, List, refl, sym, subst}
-use Rattle.lk_names.specs.declared.events.Act.{Act}
-use Rattle.lk_reach.specs.Path.{IsPath}
+use Rattle.lk_reach.proofs.Names.{Act, IsPath}
 use Rattle.lk_reach.proofs.path.path_to.Goals as goal
 
 pub loop-made-init : goal.loop-made-init

@@ -1,5 +1,5 @@
 use Rattle.std.proofs.Common.{◌≤◌, ◌+◌}
-use Rattle.lk_reach.specs.Path.{IsPath}
+use Rattle.lk_reach.proofs.Names.{IsPath}
 use Rattle.lk_reach.proofs.path.path_to.Given as goal
 
 -- the acts so far lead on to the state, from one that is lower by at least as many

@@ -1,8 +1,7 @@
 use Rattle.std.proofs.Common.{◌≡◌, ◌∙◌, ap, arith, get_or, subst, sym}
-use Rattle.lk_names.specs.ListOf.{ListOf}
-use Rattle.lk_rows.specs.declared.setup.Op.{Op}
-use Rattle.lk_reach.specs.Peers.{HasSameHandlers}
+use Rattle.lk_reach.proofs.Names.{ListOf, Op}
 use Rattle.lk_reach.proofs.apart.Alike.{got_or, no_program, no_programs, peers_are}
+use Rattle.lk_reach.specs.Peers.{HasSameHandlers}
 use Rattle.lk_reach.proofs.peers.is_peer.Goals as goal
 
 pub returns : goal.returns

@@ -1,9 +1,5 @@
-use Rattle.std.proofs.Common.{◌≡◌, ◌∙◌, ℕ, Some, ap, arith, inl, inr, subst, sym}
-use Rattle.std.specs.Prelude.{slice_get}
-use Rattle.std.proofs.lemmas.Bool.{cases_eq}
-use Rattle.std.proofs.lemmas.Option.{slice_get_within}
-use Rattle.lk_names.specs.ListOf.{ListOf}
-use Rattle.lk_rows.specs.declared.setup.Op.{Op}
+use Rattle.std.proofs.Common.{◌≡◌, ◌∙◌, ℕ, Some, ap, arith, inl, inr, subst, sym, slice_get}
+use Rattle.lk_reach.proofs.Names.{cases_eq, slice_get_within, ListOf, Op}
 use Rattle.lk_reach.proofs.Kept.{one_value}
 use Rattle.lk_reach.proofs.peers.same_handlers.Goals as goal
 

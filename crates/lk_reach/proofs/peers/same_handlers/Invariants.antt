@@ -1,7 +1,5 @@
-use Rattle.std.proofs.Common.{◌≡◌, ◌<◌, ℕ, Some}
-use Rattle.std.specs.Prelude.{slice_get}
-use Rattle.lk_names.specs.ListOf.{ListOf}
-use Rattle.lk_rows.specs.declared.setup.Op.{Op}
+use Rattle.std.proofs.Common.{◌≡◌, ◌<◌, ℕ, Some, slice_get}
+use Rattle.lk_reach.proofs.Names.{ListOf, Op}
 use Rattle.lk_reach.proofs.peers.same_handlers.Given as goal
 
 -- the programs so far are the same

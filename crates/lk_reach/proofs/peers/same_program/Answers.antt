@@ -1,6 +1,5 @@
-use Rattle.std.proofs.Common.{◌≡◌, ◌∙◌, ℕ, Some, ap, arith, inl, inr, subst, sym}
-use Rattle.std.specs.Prelude.{slice_get}
-use Rattle.std.proofs.lemmas.Bool.{cases_eq}
+use Rattle.std.proofs.Common.{◌≡◌, ◌∙◌, ℕ, Some, ap, arith, inl, inr, subst, sym, slice_get}
+use Rattle.lk_reach.proofs.Names.{cases_eq}
 use Rattle.lk_reach.proofs.apart.Alike.{same_list}
 use Rattle.lk_reach.proofs.peers.same_program.Goals as goal
 

@@ -1,5 +1,4 @@
-use Rattle.std.proofs.Common.{◌≡◌, ◌<◌, ℕ}
-use Rattle.std.specs.Prelude.{slice_get}
+use Rattle.std.proofs.Common.{◌≡◌, ◌<◌, ℕ, slice_get}
 use Rattle.lk_reach.proofs.peers.same_program.Given as goal
 
 -- the operations so far are the same

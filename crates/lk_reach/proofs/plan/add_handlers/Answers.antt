@@ -1,12 +1,8 @@
 use Rattle.std.proofs.Common.{arith, ◌<◌, ℕ, List, sym, subst, ◌+◌, inl, inr}
-use Rattle.std.proofs.lemmas.Bool.{cases_lt}
-use Rattle.lk_names.specs.declared.events.Act.{Act}
-use Rattle.lk_names.specs.declared.events.Act.TheVariants as act
+use Rattle.lk_reach.proofs.Names.{cases_lt, Act, Among, OnlyMoves, cpus_of, IsFront}
 use Rattle.lk_rows.specs.Programs.{handlers_of}
-use Rattle.lk_reach.specs.Reach.{cpus_of}
-use Rattle.lk_reach.specs.Space.{IsFront}
-use Rattle.lk_reach.specs.Explored.{Among, OnlyMoves}
 use Rattle.lk_reach.proofs.apart.Moves.{front_push, only_push, all_push, all_skip}
+use Rattle.lk_names.specs.declared.events.Act.TheVariants as act
 use Rattle.lk_reach.proofs.plan.add_handlers.Goals as goal
 
 pub loop-cpu-preserved : goal.loop-cpu-preserved

@@ -1,10 +1,7 @@
 use Rattle.std.proofs.Common.{arith, ◌≡◌, ◌<◌, ℕ, List, sym, subst, ◌+◌, true}
-use Rattle.lk_names.specs.declared.events.Act.{Act}
-use Rattle.lk_names.specs.declared.events.Act.TheVariants as act
-use Rattle.lk_reach.specs.Reach.{cpus_of}
-use Rattle.lk_reach.specs.Space.{IsFront}
-use Rattle.lk_reach.specs.Explored.{Among, OnlyMoves}
+use Rattle.lk_reach.proofs.Names.{Act, Among, OnlyMoves, cpus_of, IsFront}
 use Rattle.lk_reach.proofs.apart.Moves.{front_push, is_asked, only_push, all_push}
+use Rattle.lk_names.specs.declared.events.Act.TheVariants as act
 use Rattle.lk_reach.proofs.plan.add_nudges.Goals as goal
 
 pub loop-cpu-preserved : goal.loop-cpu-preserved

@@ -1,7 +1,6 @@
 use Rattle.std.proofs.Common.{◌≡◌, ◌<◌, ℕ, true}
+use Rattle.lk_reach.proofs.Names.{Among, OnlyMoves, IsFront}
 use Rattle.lk_names.specs.declared.events.Act.TheVariants as act
-use Rattle.lk_reach.specs.Space.{IsFront}
-use Rattle.lk_reach.specs.Explored.{Among, OnlyMoves}
 use Rattle.lk_reach.proofs.plan.add_nudges.Given as goal
 
 -- the acts of the processors so far are there

@@ -1,12 +1,7 @@
-use Rattle.std.proofs.Common.{arith, ◌≡◌, ℕ, Some, ap, length, sym, subst, inl, inr}
-use Rattle.std.proofs.lemmas.Bool.{cases_eq}
-use Rattle.std.proofs.lemmas.Option.{slice_get_within}
-use Rattle.std.specs.Prelude.{slice_get}
-use Rattle.lk_names.specs.declared.events.Act.{Act}
-use Rattle.lk_rows.specs.declared.setup.Setup.{Setup}
-use Rattle.lk_reach.specs.Explored.{IsStepped, IsSuch}
-use Rattle.lk_reach.specs.Seeking.{DoesAt, DoesNotAt}
+use Rattle.std.proofs.Common.{arith, ◌≡◌, ℕ, Some, ap, length, sym, subst, inl, inr, slice_get}
+use Rattle.lk_reach.proofs.Names.{cases_eq, slice_get_within, Act, Setup, IsStepped, IsSuch}
 use Rattle.lk_reach.proofs.Kept.{one_value}
+use Rattle.lk_reach.specs.Seeking.{DoesAt, DoesNotAt}
 use Rattle.lk_reach.proofs.seeking.act_on.Goals as goal
 
 pub is_sought_at-requires : goal.is_sought_at-requires

@@ -1,7 +1,5 @@
-use Rattle.std.proofs.Common.{◌≡◌, ◌<◌, ℕ, Some}
-use Rattle.std.specs.Prelude.{slice_get}
-use Rattle.lk_names.specs.declared.events.Act.{Act}
-use Rattle.lk_reach.specs.Explored.{IsSuch}
+use Rattle.std.proofs.Common.{◌≡◌, ◌<◌, ℕ, Some, slice_get}
+use Rattle.lk_reach.proofs.Names.{Act, IsSuch}
 use Rattle.lk_reach.specs.Seeking.{DoesNotAt}
 use Rattle.lk_reach.proofs.seeking.act_on.Given as goal
 

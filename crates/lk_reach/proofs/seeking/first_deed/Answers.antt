@@ -1,8 +1,6 @@
 use Rattle.std.proofs.Common.{arith, ℕ, sym, subst, inl, inr}
-use Rattle.std.proofs.lemmas.Bool.{cases_eq}
-use Rattle.lk_rows.specs.declared.setup.Setup.{Setup}
-use Rattle.lk_reach.specs.Explored.{IsStepped, IsSuch}
-use Rattle.lk_reach.specs.Seeking.{IsDoneBy, NameCpus, NoneAt}
+use Rattle.lk_reach.proofs.Names.{cases_eq, Setup, IsStepped, IsSuch, NoneAt}
+use Rattle.lk_reach.specs.Seeking.{IsDoneBy, NameCpus}
 use Rattle.lk_reach.proofs.seeking.first_deed.Goals as goal
 
 pub act_on-requires : goal.act_on-requires

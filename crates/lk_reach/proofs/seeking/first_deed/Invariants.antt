@@ -1,6 +1,5 @@
 use Rattle.std.proofs.Common.{◌<◌, ℕ}
-use Rattle.lk_reach.specs.Explored.{IsSuch}
-use Rattle.lk_reach.specs.Seeking.{NoneAt}
+use Rattle.lk_reach.proofs.Names.{IsSuch, NoneAt}
 use Rattle.lk_reach.proofs.seeking.first_deed.Given as goal
 
 -- on none of the states so far an act does

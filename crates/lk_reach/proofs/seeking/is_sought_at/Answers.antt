@@ -1,9 +1,5 @@
 use Rattle.std.proofs.Common.{arith, ◌≡◌, sym, subst}
-use Rattle.lk_rows.specs.declared.setup.Setup.{Setup}
-use Rattle.lk_rows.specs.Machine.{Machine}
-use Rattle.lk_law.specs.Sound.{IsSound}
-use Rattle.lk_reach.specs.Deeds.{IsSought}
-use Rattle.lk_reach.specs.Explored.{IsSuch}
+use Rattle.lk_reach.proofs.Names.{Machine, Setup, IsSound, IsSought, IsSuch}
 use Rattle.lk_reach.proofs.Left as left
 use Rattle.lk_reach.proofs.seeking.is_sought_at.Goals as goal
 

@@ -1,9 +1,5 @@
-use Rattle.std.proofs.Common.{arith, ◌≡◌, ℕ, Some, inl, inr, subst, sym, ap, ◌∙◌, refl}
-use Rattle.std.specs.Prelude.{slice_get}
-use Rattle.std.proofs.lemmas.Bool.{cases_eq}
-use Rattle.std.proofs.lemmas.Option.{slice_get-get_or, slice_get_within}
-use Rattle.lk_rows.specs.Machine.{CpuState}
-use Rattle.lk_machine.specs.Parts.{row_of}
+use Rattle.std.proofs.Common.{arith, ◌≡◌, ℕ, Some, inl, inr, subst, sym, ap, ◌∙◌, refl, slice_get}
+use Rattle.lk_reach.proofs.Names.{cases_eq, slice_get-get_or, slice_get_within, CpuState, row_of}
 use Rattle.lk_reach.proofs.Kept.{one_value}
 use Rattle.lk_reach.proofs.space.has_row.Goals as goal
 

@@ -1,6 +1,6 @@
 use Rattle.std.proofs.Common.{rules, sym, ◌∙◌}
-use Rattle.lk_rows.specs.contracts.Pc.{the_type}
 use denote.Enum.Bare.{same_false, same_true}
+use Rattle.lk_rows.specs.contracts.Pc.{the_type}
 use Rattle.lk_reach.proofs.space.same_row.Goals as goal
 
 pub returns : goal.returns

@@ -1,5 +1,5 @@
 use Rattle.std.proofs.Common.{◌∙◌, Some, ap, inl, inr, sym}
-use Rattle.lk_reach.specs.declared.steps.Made.{Made}
+use Rattle.lk_reach.proofs.Names.{Made}
 use Rattle.lk_reach.proofs.steps.pass_on.Goals as goal
 
 pub returns-in-Some : goal.returns-in-Some

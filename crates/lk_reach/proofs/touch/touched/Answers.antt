@@ -1,8 +1,9 @@
 use Rattle.std.proofs.Common.{arith, ◌≡◌, ◌-◌, ℕ, List, [], ◌∷◌, zero, suc, ap, length, refl}
-use Rattle.std.specs.Prelude.{slice_get, unwrap_or}
-use Rattle.lk_rows.specs.declared.parts.Frame.{Frame}
-use Rattle.lk_rows.specs.Machine.{Machine, cpu_at, depth_at, frame_at, rest_frame, top_frame}
-use Rattle.lk_touch.specs.Touching.{Touches, other_at}
+use Rattle.std.proofs.Common.{slice_get}
+use Rattle.std.specs.Prelude.{unwrap_or}
+use Rattle.lk_reach.proofs.Names.{Machine, rest_frame, top_frame, Frame, Touches}
+use Rattle.lk_rows.specs.Machine.{cpu_at, depth_at, frame_at}
+use Rattle.lk_touch.specs.Touching.{other_at}
 use Rattle.lk_reach.proofs.touch.touched.Goals as goal
 
 -- where there are no frames the newest one is at rest

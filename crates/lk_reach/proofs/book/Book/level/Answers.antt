@@ -1,6 +1,5 @@
-use Rattle.std.proofs.Common.{◌∙◌, ap}
-use Rattle.std.specs.Prelude.{slice_get}
-use Rattle.lk_reach.specs.declared.origin.Origin.{Origin}
+use Rattle.std.proofs.Common.{◌∙◌, ap, slice_get}
+use Rattle.lk_reach.proofs.Names.{Origin}
 use Rattle.lk_reach.proofs.Kept.{one_value}
 use Rattle.lk_reach.proofs.book.Book.level.Goals as goal
 

@@ -1,7 +1,6 @@
 use Rattle.std.proofs.Common.{◌∙◌, ◌∷◌, [], ◌++◌, List, ap, inl, inr, length, refl, sym}
-use Rattle.lk_reach.specs.declared.origin.Origin.{Origin}
-use Rattle.lk_reach.proofs.Columns.{columns_none}
-use Rattle.lk_reach.proofs.apart.Firsts.{none_first}
+use Rattle.lk_reach.proofs.Names.{Origin}
+use Rattle.lk_reach.proofs.{Columns.columns_none, apart.Firsts.none_first}
 use Rattle.lk_reach.proofs.book.Book.new.Goals as goal
 
 abbrev first : Origin

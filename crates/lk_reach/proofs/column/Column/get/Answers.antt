@@ -1,6 +1,5 @@
-use Rattle.std.proofs.Common.{◌≡◌, ◌∙◌, ℕ, List, ap, arith, subst, sym, None, Some}
-use Rattle.std.specs.Prelude.{slice_get}
-use Rattle.lk_reach.specs.Numbers.{place_at}
+use Rattle.std.proofs.Common.{◌≡◌, ◌∙◌, ℕ, List, ap, arith, subst, sym, None, Some, slice_get}
+use Rattle.lk_reach.proofs.Names.{place_at}
 use Rattle.lk_reach.proofs.Listed.{listed_get, listed_past}
 use Rattle.lk_reach.proofs.column.Column.get.Goals as goal
 

@@ -1,5 +1,5 @@
 use Rattle.std.proofs.Common.{◌∙◌, ◌++◌, ◌∷◌, [], ℕ, List, ap, arith}
-use Rattle.lk_reach.specs.Numbers.{place_at}
+use Rattle.lk_reach.proofs.Names.{place_at}
 use Rattle.lk_reach.proofs.Listed.{listed_more}
 use Rattle.lk_reach.proofs.column.Column.push.Goals as goal
 

@@ -1,12 +1,7 @@
-use Rattle.std.proofs.Common.{List, sym, subst}
-use Rattle.std.specs.Prelude.{slice_index_or}
-use Rattle.std.proofs.lemmas.Option.{slice_get-get_or}
-use Rattle.lk_rows.specs.declared.setup.Setup.{Setup}
-use Rattle.lk_reach.specs.declared.helper.Helper.{Helper}
-use Rattle.lk_reach.specs.Explored.{IsSuch}
-use Rattle.lk_reach.specs.Helped.{AreHelpers, HaveWays, IsSent, MayLook}
-use Rattle.lk_reach.specs.Space.{SpaceValue}
-use Rattle.lk_reach.specs.Steps.{AreMade}
+use Rattle.std.proofs.Common.{List, sym, subst, slice_index_or}
+use Rattle.lk_reach.proofs.Names.{slice_get-get_or, Setup, IsSuch, AreHelpers, HaveWays, MayLook}
+use Rattle.lk_reach.proofs.Names.{SpaceValue, AreMade, Helper}
+use Rattle.lk_reach.specs.Helped.{IsSent}
 use Rattle.lk_reach.proofs.apart.Helped as helped
 use Rattle.lk_reach.proofs.crew.Crew.look_ahead.Goals as goal
 

@@ -1,5 +1,5 @@
 use Rattle.std.proofs.Common.{List, subst}
-use Rattle.lk_reach.specs.declared.helper.Helper.{Helper}
+use Rattle.lk_reach.proofs.Names.{Helper}
 use Rattle.lk_reach.specs.Helped.{IsOneOf}
 use Rattle.lk_reach.proofs.crew.Crew.take.Goals as goal
 

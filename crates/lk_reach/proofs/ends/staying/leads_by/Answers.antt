@@ -1,15 +1,9 @@
-use Rattle.std.proofs.Common.{arith, ◌≡◌, ◌<◌, ◌∙◌, ap, length, sym, subst}
-use Rattle.std.specs.Prelude.{slice_get}
-use Rattle.lk_rows.specs.declared.setup.Setup.{Setup}
-use Rattle.lk_rows.specs.Machine.{Machine}
-use Rattle.lk_law.specs.Sound.{IsSound}
-use Rattle.lk_idle.specs.Alike.{AreAlike, bared}
-use Rattle.lk_reach.specs.Explored.{IsSuch}
-use Rattle.lk_reach.specs.Reach.{after, cpus_of}
-use Rattle.lk_reach.proofs.Closed.{move_in_range}
-use Rattle.lk_reach.proofs.Kept.{one_value}
+use Rattle.std.proofs.Common.{arith, ◌≡◌, ◌<◌, ◌∙◌, ap, length, sym, subst, slice_get}
+use Rattle.lk_reach.proofs.Names.{Machine, Setup, IsSound, AreAlike, bared, IsSuch, after, cpus_of}
+use Rattle.lk_reach.proofs.{Closed.move_in_range, Kept.one_value}
+use Rattle.lk_reach.proofs.apart.Going.{programs_at, sight_alike, sound_behind, stepped}
+use Rattle.lk_reach.proofs.apart.Going.{stepped_one, top_at}
 use Rattle.lk_reach.proofs.Left as left
-use Rattle.lk_reach.proofs.apart.Going.{programs_at, sight_alike, sound_behind, stepped, stepped_one, top_at}
 use Rattle.lk_reach.proofs.ends.staying.leads_by.Goals as goal
 
 pub load-requires-clause-there : goal.load-requires-clause-there

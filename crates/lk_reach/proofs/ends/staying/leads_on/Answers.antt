@@ -1,9 +1,7 @@
 use Rattle.std.proofs.Common.{arith, ap, get_or, length, sym, subst}
-use Rattle.std.proofs.lemmas.Option.{slice_get-get_or}
-use Rattle.lk_names.specs.declared.events.Act.TheVariants as act
-use Rattle.lk_rows.specs.declared.setup.Setup.{Setup}
-use Rattle.lk_reach.specs.Explored.{IsSuch}
+use Rattle.lk_reach.proofs.Names.{slice_get-get_or, Setup, IsSuch}
 use Rattle.lk_reach.specs.Sights.{LeadsOnBy, MayTry}
+use Rattle.lk_names.specs.declared.events.Act.TheVariants as act
 use Rattle.lk_reach.proofs.ends.staying.leads_on.Goals as goal
 
 pub leads_by-requires : goal.leads_by-requires

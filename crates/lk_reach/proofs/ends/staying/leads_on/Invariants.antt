@@ -1,4 +1,4 @@
-use Rattle.lk_reach.specs.Explored.{IsSuch}
+use Rattle.lk_reach.proofs.Names.{IsSuch}
 use Rattle.lk_reach.proofs.ends.staying.leads_on.Given as goal
 
 -- the machine is one of its setup

@@ -1,12 +1,10 @@
-use Rattle.std.proofs.Common.{arith, subst}
-use Rattle.std.proofs.Common.{false}
-use Rattle.std.proofs.lemmas.Option.{slice_get_within}
-use Rattle.lk_rows.specs.declared.setup.Setup.{Setup}
-use Rattle.lk_reach.specs.Explored.{IsSuch}
-use Rattle.lk_reach.specs.Sights.{LeadsOn}
+use Rattle.std.proofs.Common.{arith, subst, false}
+use Rattle.lk_reach.proofs.Names.{slice_get_within, Setup, IsSuch}
 use Rattle.lk_reach.proofs.apart.Going.{going_more, stays_more, stays_then}
+use Rattle.lk_reach.proofs.ends.staying.mark_going.Goals.{then-not-is_settled+in_ok-mark_leading}
+use Rattle.lk_reach.proofs.ends.staying.mark_going.Goals.{else-not-is_settled}
+use Rattle.lk_reach.specs.Sights.{LeadsOn}
 use Rattle.lk_reach.proofs.ends.staying.mark_going.Goals as goal
-use Rattle.lk_reach.proofs.ends.staying.mark_going.Goals.{then-not-is_settled+in_ok-mark_leading, else-not-is_settled}
 
 pub loop-state-preserved : goal.loop-state-preserved
 loop-state-preserved c =

@@ -1,8 +1,5 @@
-use Rattle.std.proofs.Common.{◌≡◌, ◌<◌, ℕ, Some, false}
-use Rattle.std.specs.Prelude.{slice_get}
-use Rattle.lk_reach.specs.Ends.{StaysAt}
-use Rattle.lk_reach.specs.Explored.{IsSuch}
-use Rattle.lk_reach.specs.Sights.{AreGoing}
+use Rattle.std.proofs.Common.{◌≡◌, ◌<◌, ℕ, Some, false, slice_get}
+use Rattle.lk_reach.proofs.Names.{StaysAt, IsSuch, AreGoing}
 use Rattle.lk_reach.proofs.ends.staying.mark_going.Given as goal
 
 -- of the states so far each that is not marked stays

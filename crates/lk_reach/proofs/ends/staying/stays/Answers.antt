@@ -1,7 +1,5 @@
 use Rattle.std.proofs.Common.{arith, ℕ, subst, inl, inr}
-use Rattle.std.proofs.lemmas.Bool.{cases_eq}
-use Rattle.std.proofs.lemmas.Option.{slice_get_within}
-use Rattle.lk_reach.specs.Explored.{LeadsTo}
+use Rattle.lk_reach.proofs.Names.{cases_eq, slice_get_within, LeadsTo}
 use Rattle.lk_reach.proofs.ends.staying.stays.Goals as goal
 
 pub loop-act-preserved : goal.loop-act-preserved

@@ -1,5 +1,5 @@
 use Rattle.std.proofs.Common.{◌≡◌, ◌<◌, ℕ}
-use Rattle.lk_reach.specs.Explored.{LeadsTo}
+use Rattle.lk_reach.proofs.Names.{LeadsTo}
 use Rattle.lk_reach.proofs.ends.staying.stays.Given as goal
 
 -- none of the acts so far led to another number

@@ -1,17 +1,10 @@
 use Rattle.std.proofs.Common.{arith, ℕ, ◌≡◌, ◌∙◌, ◌<◌, Option, ap, sym, subst, length, inl, inr}
-use Rattle.std.specs.Prelude.{IfSome, slice_get}
-use Rattle.lk_names.specs.declared.events.Act.TheVariants as act
-use Rattle.lk_rows.specs.declared.setup.Setup.{Setup}
-use Rattle.lk_rows.specs.Acts.{next, processor_of}
-use Rattle.lk_rows.specs.Machine.{Machine}
-use Rattle.lk_touch.specs.Touching.{Touches}
-use Rattle.lk_law.specs.Sound.{IsSound}
-use Rattle.lk_reach.specs.declared.key.Key.{Key}
-use Rattle.lk_reach.specs.Explored.{IsSuch}
-use Rattle.lk_reach.specs.Reach.{after}
-use Rattle.lk_reach.specs.Space.{Keeps, KeyKeeps}
+use Rattle.std.proofs.Common.{IfSome, slice_get}
+use Rattle.lk_reach.proofs.Names.{next, processor_of, Machine, Setup, IsSound, Touches, IsSuch}
+use Rattle.lk_reach.proofs.Names.{after, Keeps, KeyKeeps, Key}
 use Rattle.lk_reach.proofs.Kept.{keeps_grown, key_grown, one_value}
 use Rattle.lk_reach.proofs.apart.Remembered.{made_grown, step_low, was_made}
+use Rattle.lk_names.specs.declared.events.Act.TheVariants as act
 use Rattle.lk_reach.proofs.Left as left
 use Rattle.lk_reach.proofs.exploring.anew.make_anew.Goals as goal
 

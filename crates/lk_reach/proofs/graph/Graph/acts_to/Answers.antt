@@ -1,6 +1,5 @@
 use Rattle.std.proofs.Common.{arith}
-use Rattle.lk_reach.proofs.Folded.{laws}
-use Rattle.lk_reach.proofs.apart.Leading.{are_low, path_leads, way_to}
+use Rattle.lk_reach.proofs.{Folded.laws, apart.Leading.{are_low, path_leads, way_to}}
 use Rattle.lk_reach.proofs.graph.Graph.acts_to.Goals as goal
 
 pub path_to-requires : goal.path_to-requires

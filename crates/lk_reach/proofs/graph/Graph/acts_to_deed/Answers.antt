@@ -1,7 +1,8 @@
 use Rattle.std.proofs.Common.{arith}
-use Rattle.std.proofs.lemmas.Option.{slice_get_within}
+use Rattle.lk_reach.proofs.Names.{slice_get_within}
 use Rattle.lk_reach.proofs.Closed.{Laws}
-use Rattle.lk_reach.proofs.apart.Finding.{acts_name_cpus, all_stepped, graph_same, never_done, shortest_deed, way_same}
+use Rattle.lk_reach.proofs.apart.Finding.{acts_name_cpus, all_stepped, graph_same, never_done}
+use Rattle.lk_reach.proofs.apart.Finding.{shortest_deed, way_same}
 use Rattle.lk_reach.proofs.graph.Graph.acts_to_deed.Goals as goal
 
 pub first_deed-requires : goal.first_deed-requires

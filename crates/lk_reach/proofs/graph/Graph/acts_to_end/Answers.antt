@@ -1,5 +1,4 @@
-use Rattle.lk_reach.proofs.Closed.{Laws}
-use Rattle.lk_reach.proofs.Ending.{no_end, shortest_end}
+use Rattle.lk_reach.proofs.{Closed.Laws, Ending.{no_end, shortest_end}}
 use Rattle.lk_reach.proofs.graph.Graph.acts_to_end.Goals as goal
 
 pub returns-in-Some : goal.returns-in-Some

@@ -1,9 +1,7 @@
 use Rattle.std.proofs.Common.{List, subst, sym}
-use Rattle.std.proofs.lemmas.Option.{slice_get_within}
-use Rattle.lk_names.specs.declared.events.Act.{Act}
+use Rattle.lk_reach.proofs.Names.{slice_get_within, Act}
+use Rattle.lk_reach.proofs.{Closed.Laws, apart.Leading.{never_told, shortest_event}}
 use Rattle.lk_reach.specs.Told.{IsShortestToEvent}
-use Rattle.lk_reach.proofs.Closed.{Laws}
-use Rattle.lk_reach.proofs.apart.Leading.{never_told, shortest_event}
 use Rattle.lk_reach.proofs.graph.Graph.acts_to_event.Goals as goal
 
 pub acts_to-requires : goal.acts_to-requires

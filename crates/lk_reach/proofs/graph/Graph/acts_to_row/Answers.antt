@@ -1,5 +1,4 @@
-use Rattle.lk_reach.proofs.Closed.{Laws}
-use Rattle.lk_reach.proofs.apart.Leading.{no_row, shortest_row}
+use Rattle.lk_reach.proofs.{Closed.Laws, apart.Leading.{no_row, shortest_row}}
 use Rattle.lk_reach.proofs.graph.Graph.acts_to_row.Goals as goal
 
 pub returns-in_ok-acts-in-Some : goal.returns-in_ok-acts-in-Some

@@ -1,9 +1,6 @@
 use Rattle.std.proofs.Common.{subst}
-use Rattle.lk_reach.specs.declared.graph.Graph.{Graph}
-use Rattle.lk_reach.specs.Told.{IsWay}
-use Rattle.lk_reach.proofs.Closed.{Laws}
-use Rattle.lk_reach.proofs.Ending.{no_stuck, shortest_stuck}
-use Rattle.lk_reach.proofs.apart.Finding.{way_same}
+use Rattle.lk_reach.proofs.Names.{IsWay, Graph}
+use Rattle.lk_reach.proofs.{Closed.Laws, Ending.{no_stuck, shortest_stuck}, apart.Finding.way_same}
 use Rattle.lk_reach.proofs.graph.Graph.acts_to_stuck.Goals as goal
 
 pub returns-in-Some : goal.returns-in-Some

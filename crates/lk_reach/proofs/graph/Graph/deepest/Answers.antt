@@ -1,7 +1,5 @@
-use Rattle.std.proofs.Common.{arith, ◌≡◌, ℕ, Some, subst}
-use Rattle.std.specs.Prelude.{slice_get}
-use Rattle.lk_reach.proofs.Closed.{Laws}
-use Rattle.lk_reach.proofs.apart.Deepest.{deepest_is}
+use Rattle.std.proofs.Common.{arith, ◌≡◌, ℕ, Some, subst, slice_get}
+use Rattle.lk_reach.proofs.{Closed.Laws, apart.Deepest.deepest_is}
 use Rattle.lk_reach.proofs.graph.Graph.deepest.Goals as goal
 
 pub returns : goal.returns

@@ -1,5 +1,4 @@
-use Rattle.lk_reach.proofs.Closed.{Laws}
-use Rattle.lk_reach.proofs.Ending.{doomed_all, finishing}
+use Rattle.lk_reach.proofs.{Closed.Laws, Ending.{doomed_all, finishing}}
 use Rattle.lk_reach.proofs.graph.Graph.doomed.Goals as goal
 
 pub loop-made-init : goal.loop-made-init

@@ -1,4 +1,4 @@
-use Rattle.lk_reach.specs.Ends.{AreFinishing}
+use Rattle.lk_reach.proofs.Names.{AreFinishing}
 use Rattle.lk_reach.proofs.graph.Graph.doomed.Given as goal
 
 -- from who is marked some schedule finishes

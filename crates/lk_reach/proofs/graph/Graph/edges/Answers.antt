@@ -1,7 +1,5 @@
 use Rattle.std.proofs.Common.{length}
-use Rattle.lk_reach.proofs.Closed.{Laws}
-use Rattle.lk_reach.proofs.Columns.{leads_there}
-use Rattle.lk_reach.proofs.Ending.{led}
+use Rattle.lk_reach.proofs.{Closed.Laws, Columns.leads_there, Ending.led}
 use Rattle.lk_reach.proofs.graph.Graph.edges.Goals as goal
 
 pub returns : goal.returns

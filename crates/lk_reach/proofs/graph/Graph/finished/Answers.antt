@@ -1,7 +1,7 @@
-use Rattle.std.proofs.Common.{arith, ◌≡◌, ◌+◌, ◌∷◌, [], ◌++◌, ℕ, List, Bool, length, length-append, ap, sym, subst, ◌∙◌}
-use Rattle.lk_reach.specs.Space.{Keeps}
-use Rattle.lk_reach.proofs.Closed.{Laws}
-use Rattle.lk_reach.proofs.Ending.{EndsSo, ends_more, ends_none}
+use Rattle.std.proofs.Common.{arith, ◌≡◌, ◌+◌, ◌∷◌, [], ◌++◌, ℕ, List, Bool, length, length-append}
+use Rattle.std.proofs.Common.{ap, sym, subst, ◌∙◌}
+use Rattle.lk_reach.proofs.Names.{Keeps}
+use Rattle.lk_reach.proofs.{Closed.Laws, Ending.{EndsSo, ends_more, ends_none}}
 use Rattle.lk_reach.proofs.graph.Graph.finished.Goals as goal
 
 pub loop-state-init : goal.loop-state-init

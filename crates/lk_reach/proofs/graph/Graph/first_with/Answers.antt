@@ -1,5 +1,5 @@
 use Rattle.std.proofs.Common.{arith}
-use Rattle.std.proofs.lemmas.Option.{slice_get_within}
+use Rattle.lk_reach.proofs.Names.{slice_get_within}
 use Rattle.lk_reach.proofs.graph.Graph.first_with.Goals as goal
 
 pub returns-clause-none : goal.returns-clause-none

@@ -1,7 +1,5 @@
 use Rattle.std.proofs.Common.{◌≡◌, ◌<◌, ℕ, length}
-use Rattle.lk_rows.specs.Machine.{Machine}
-use Rattle.lk_reach.specs.Reach.{MakesRow}
-use Rattle.lk_reach.specs.Space.{Keeps}
+use Rattle.lk_reach.proofs.Names.{Machine, MakesRow, Keeps}
 use Rattle.lk_reach.proofs.graph.Graph.first_with.Given as goal
 
 -- no state so far makes the row

@@ -1,6 +1,5 @@
-use Rattle.std.proofs.Common.{◌≢◌, ◌<◌, ℕ, Some, true}
-use Rattle.std.specs.Prelude.{slice_get}
-use Rattle.lk_reach.specs.Explored.{LeadsTo}
+use Rattle.std.proofs.Common.{◌≢◌, ◌<◌, ℕ, Some, true, slice_get}
+use Rattle.lk_reach.proofs.Names.{LeadsTo}
 use Rattle.lk_reach.proofs.graph.Graph.leads_some.Given as goal
 
 -- none of the acts so far leads to a marked state

@@ -1,7 +1,6 @@
 use Rattle.std.proofs.Common.{arith, ◌≡◌, ◌∙◌, ℕ, Some, subst, refl, inl, inr}
-use Rattle.std.proofs.lemmas.Bool.{cases_eq}
+use Rattle.lk_reach.proofs.Names.{cases_eq, row_of}
 use Rattle.lk_rows.specs.Machine.{cpu_at}
-use Rattle.lk_machine.specs.Parts.{row_of}
 use Rattle.lk_reach.proofs.graph.Graph.makes.Goals as goal
 
 pub loop-cpu-preserved : goal.loop-cpu-preserved

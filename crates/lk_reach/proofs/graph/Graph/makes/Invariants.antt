@@ -1,7 +1,6 @@
 use Rattle.std.proofs.Common.{◌≡◌, ◌≢◌, ◌<◌, ℕ, Some, length}
-use Rattle.lk_rows.specs.Machine.{Machine, cpu_at}
-use Rattle.lk_machine.specs.Parts.{row_of}
-use Rattle.lk_reach.specs.Space.{Keeps}
+use Rattle.lk_reach.proofs.Names.{Machine, row_of, Keeps}
+use Rattle.lk_rows.specs.Machine.{cpu_at}
 use Rattle.lk_reach.proofs.graph.Graph.makes.Given as goal
 
 -- no processor so far makes the row

@@ -1,6 +1,6 @@
 use Rattle.std.proofs.Common.{Bool, List, sym, subst, inl, inr}
 use Rattle.std.proofs.lemmas.Bool.{cases_Bool}
-use Rattle.lk_reach.specs.Sights.{AreGoing}
+use Rattle.lk_reach.proofs.Names.{AreGoing}
 use Rattle.lk_reach.proofs.apart.Going.{going_more}
 use Rattle.lk_reach.proofs.graph.Graph.mark_shown.Goals as goal
 

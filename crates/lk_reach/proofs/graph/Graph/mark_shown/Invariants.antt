@@ -1,4 +1,4 @@
-use Rattle.lk_reach.specs.Sights.{AreGoing}
+use Rattle.lk_reach.proofs.Names.{AreGoing}
 use Rattle.lk_reach.proofs.graph.Graph.mark_shown.Given as goal
 
 -- whoever is marked goes on, or is done

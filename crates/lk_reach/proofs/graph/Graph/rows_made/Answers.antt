@@ -1,9 +1,8 @@
-use Rattle.std.proofs.Common.{◌≡◌, ◌+◌, ◌∷◌, [], ◌++◌, ℕ, Some, length, length-append, get_or, ap, sym, subst, ◌∙◌}
-use Rattle.std.specs.Prelude.{slice_get}
-use Rattle.std.proofs.lemmas.Option.{slice_get-get_or}
-use Rattle.lk_rows.specs.declared.parts.Pc.TheVariants as row
-use Rattle.lk_reach.specs.Rows.{AreMarked}
+use Rattle.std.proofs.Common.{◌≡◌, ◌+◌, ◌∷◌, [], ◌++◌, ℕ, Some, length, length-append, get_or, ap}
+use Rattle.std.proofs.Common.{sym, subst, ◌∙◌, slice_get}
+use Rattle.lk_reach.proofs.Names.{slice_get-get_or, AreMarked}
 use Rattle.lk_reach.proofs.apart.Marks.{marked_more, none_marked}
+use Rattle.lk_rows.specs.declared.parts.Pc.TheVariants as row
 use Rattle.lk_reach.proofs.graph.Graph.rows_made.Goals as goal
 
 pub loop-number-preserved : goal.loop-number-preserved

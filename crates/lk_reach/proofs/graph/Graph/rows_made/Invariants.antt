@@ -1,5 +1,5 @@
 use Rattle.std.proofs.Common.{◌≡◌, length}
-use Rattle.lk_reach.specs.Rows.{AreMarked}
+use Rattle.lk_reach.proofs.Names.{AreMarked}
 use Rattle.lk_reach.proofs.graph.Graph.rows_made.Given as goal
 
 -- each mark so far says whether a step makes the row of its number

@@ -1,6 +1,5 @@
 use Rattle.std.proofs.Common.{arith, ◌-◌, length}
-use Rattle.lk_reach.proofs.Closed.{Laws}
-use Rattle.lk_reach.proofs.Columns.{leads_low}
+use Rattle.lk_reach.proofs.{Closed.Laws, Columns.leads_low}
 use Rattle.lk_reach.proofs.Ending.{closed_more, neither, passed_good}
 use Rattle.lk_reach.proofs.graph.Graph.spread.Goals as goal
 

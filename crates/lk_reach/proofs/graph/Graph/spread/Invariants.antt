@@ -1,7 +1,5 @@
-use Rattle.std.proofs.Common.{◌≡◌, ◌≤◌, ◌+◌, ℕ, Some, true, false}
-use Rattle.std.specs.Prelude.{slice_get}
-use Rattle.lk_reach.specs.Ends.{AreFinishing}
-use Rattle.lk_reach.specs.Explored.{LeadsTo}
+use Rattle.std.proofs.Common.{◌≡◌, ◌≤◌, ◌+◌, ℕ, Some, true, false, slice_get}
+use Rattle.lk_reach.proofs.Names.{AreFinishing, LeadsTo}
 use Rattle.lk_reach.proofs.graph.Graph.spread.Given as goal
 
 -- from who is marked some schedule finishes, and while nobody was marked, the acts on the states so far are closed

@@ -1,7 +1,5 @@
 use Rattle.std.proofs.Common.{arith, refl}
-use Rattle.lk_reach.proofs.Closed.{Laws}
-use Rattle.lk_reach.proofs.Ending.{stuck_all}
-use Rattle.lk_reach.proofs.apart.Finding.{graph_same}
+use Rattle.lk_reach.proofs.{Closed.Laws, Ending.stuck_all, apart.Finding.graph_same}
 use Rattle.lk_reach.proofs.graph.Graph.stuck.Goals as goal
 
 pub mark_going-requires : goal.mark_going-requires

@@ -1,8 +1,5 @@
-use Rattle.std.proofs.Common.{ℕ, ◌≡◌, Some, sym, subst}
-use Rattle.std.specs.Prelude.{slice_get}
-use Rattle.lk_reach.specs.Helped.{LeadsThere}
-use Rattle.lk_reach.specs.Reach.{after}
-use Rattle.lk_reach.specs.Space.{Keeps}
+use Rattle.std.proofs.Common.{ℕ, ◌≡◌, Some, sym, subst, slice_get}
+use Rattle.lk_reach.proofs.Names.{LeadsThere, after, Keeps}
 use Rattle.lk_reach.proofs.helper.Helper.find.Goals as goal
 
 pub try_act-requires-clause-moves : goal.try_act-requires-clause-moves

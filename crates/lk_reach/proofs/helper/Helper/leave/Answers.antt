@@ -1,14 +1,7 @@
-use Rattle.std.proofs.Common.{◌∙◌, List, arith, sym, subst}
-use Rattle.std.specs.Prelude.{IfSome}
-use Rattle.lk_rows.specs.declared.setup.Setup.{Setup}
-use Rattle.lk_reach.specs.Explored.{IsSuch}
-use Rattle.lk_reach.specs.Helped.{IsFound, MayKeep, MayLook}
-use Rattle.lk_reach.specs.Folded.{IsHere}
-use Rattle.lk_reach.specs.Path.{IsPath}
-use Rattle.lk_reach.specs.Reach.{AreMoves, state_after}
-use Rattle.lk_reach.specs.Space.{Keeps}
-use Rattle.lk_reach.specs.Steps.{AreMade}
-use Rattle.lk_reach.specs.declared.found.Finding.{Finding}
+use Rattle.std.proofs.Common.{◌∙◌, List, arith, sym, subst, IfSome}
+use Rattle.lk_reach.proofs.Names.{Setup, IsSuch, IsHere, MayLook, IsPath, AreMoves, state_after}
+use Rattle.lk_reach.proofs.Names.{Keeps, AreMade}
+use Rattle.lk_reach.specs.{Helped.{IsFound, MayKeep}, declared.found.Finding.Finding}
 use Rattle.lk_reach.proofs.apart.Helped as helped
 use Rattle.lk_reach.proofs.helper.Helper.leave.Goals as goal
 

@@ -1,7 +1,5 @@
 use Rattle.std.proofs.Common.{◌≡◌}
-use Rattle.lk_reach.specs.Explored.{IsSuch}
-use Rattle.lk_reach.specs.Helped.{AreFound}
-use Rattle.lk_reach.specs.Steps.{AreMade}
+use Rattle.lk_reach.proofs.Names.{IsSuch, AreFound, AreMade}
 use Rattle.lk_reach.proofs.helper.Helper.leave.Given as goal
 
 -- what was found so far is so

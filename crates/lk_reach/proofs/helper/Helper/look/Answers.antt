@@ -1,8 +1,6 @@
 use Rattle.std.proofs.Common.{◌∙◌, sym, subst}
-use Rattle.lk_rows.specs.declared.setup.Setup.{Setup}
-use Rattle.lk_reach.specs.Explored.{IsSuch}
-use Rattle.lk_reach.specs.Helped.{AreFound, HaveWays, IsHelper, MayLook}
-use Rattle.lk_reach.specs.Steps.{AreMade}
+use Rattle.lk_reach.proofs.Names.{Setup, IsSuch, AreFound, HaveWays, MayLook, AreMade}
+use Rattle.lk_reach.specs.Helped.{IsHelper}
 use Rattle.lk_reach.proofs.helper.Helper.look.Goals as goal
 
 pub leave-requires-clause-sent : goal.leave-requires-clause-sent

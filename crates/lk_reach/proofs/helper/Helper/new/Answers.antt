@@ -1,8 +1,5 @@
 use Rattle.std.proofs.Common.{◌∙◌, ap, sym, subst}
-use Rattle.lk_rows.specs.Machine.{Machine}
-use Rattle.lk_rows.specs.Run.{at_rest}
-use Rattle.lk_reach.specs.Copies.{tight_setup}
-use Rattle.lk_reach.specs.Explored.{IsSuch}
+use Rattle.lk_reach.proofs.Names.{Machine, at_rest, tight_setup, IsSuch}
 use Rattle.lk_reach.proofs.apart.Helped as helped
 use Rattle.lk_reach.proofs.helper.Helper.new.Goals as goal
 

@@ -1,12 +1,6 @@
 use Rattle.std.proofs.Common.{arith, ◌≡◌, ◌∙◌, ap, sym, subst}
-use Rattle.lk_rows.specs.declared.setup.Setup.{Setup}
-use Rattle.lk_rows.specs.Acts.{next}
-use Rattle.lk_rows.specs.Machine.{Machine}
-use Rattle.lk_law.specs.Sound.{IsSound}
-use Rattle.lk_reach.specs.Helped.{LeadsThere}
-use Rattle.lk_reach.specs.Reach.{IsMove, IsReached, after}
-use Rattle.lk_reach.specs.Explored.{IsSuch}
-use Rattle.lk_reach.specs.Folded.{IsBehind, IsHere}
+use Rattle.lk_reach.proofs.Names.{next, Machine, Setup, IsSound, IsSuch, IsBehind, IsHere}
+use Rattle.lk_reach.proofs.Names.{LeadsThere, IsMove, IsReached, after}
 use Rattle.lk_reach.proofs.Closed as closed
 use Rattle.lk_reach.proofs.Folded as folded
 use Rattle.lk_reach.proofs.Left as left

@@ -1,4 +1,4 @@
-use Rattle.lk_reach.specs.Reach.{after}
+use Rattle.lk_reach.proofs.Names.{after}
 use Rattle.lk_reach.proofs.Closed as closed
 use Rattle.lk_reach.proofs.Folded as folded
 use Rattle.lk_reach.proofs.apart.Helped as helped

@@ -1,7 +1,5 @@
 use Rattle.std.proofs.Common.{List, sym, subst}
-use Rattle.lk_reach.specs.declared.helper.Helper.{Helper}
-use Rattle.lk_reach.specs.Copies.{tight_setup}
-use Rattle.lk_reach.specs.Helped.{AreFresh}
+use Rattle.lk_reach.proofs.Names.{tight_setup, AreFresh, Helper}
 use Rattle.lk_reach.proofs.apart.Helped.{fresh_more}
 use Rattle.lk_reach.proofs.helpers.Helpers.new.Goals as goal
 

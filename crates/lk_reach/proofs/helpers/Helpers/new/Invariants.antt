@@ -1,5 +1,4 @@
-use Rattle.lk_reach.specs.Copies.{tight_setup}
-use Rattle.lk_reach.specs.Helped.{AreFresh}
+use Rattle.lk_reach.proofs.Names.{tight_setup, AreFresh}
 use Rattle.lk_reach.proofs.helpers.Helpers.new.Given as goal
 
 -- so many helpers were made

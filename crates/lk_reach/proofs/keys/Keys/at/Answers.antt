@@ -1,7 +1,5 @@
-use Rattle.std.proofs.Common.{◌≡◌, ◌∙◌, ◌++◌, ℕ, List, ap, arith, length, subst, Some}
-use Rattle.std.specs.Prelude.{slice_get}
-use Rattle.lk_reach.specs.declared.key.Key.{Key}
-use Rattle.lk_reach.specs.Numbers.{firsts, four_at, key_at, number_at}
+use Rattle.std.proofs.Common.{◌≡◌, ◌∙◌, ◌++◌, ℕ, List, ap, arith, length, subst, Some, slice_get}
+use Rattle.lk_reach.proofs.Names.{firsts, four_at, key_at, number_at, Key}
 use Rattle.lk_reach.proofs.Listed.{listed_get, listed_length}
 use Rattle.lk_reach.proofs.keys.Keys.at.Goals as goal
 

@@ -1,5 +1,5 @@
 use Rattle.std.proofs.Common.{◌∙◌, ap, arith, length, sym}
-use Rattle.lk_reach.specs.Numbers.{key_at}
+use Rattle.lk_reach.proofs.Names.{key_at}
 use Rattle.lk_reach.proofs.Listed.{listed_length}
 use Rattle.lk_reach.proofs.keys.Keys.get.Goals as goal
 

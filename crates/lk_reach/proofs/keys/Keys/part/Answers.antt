@@ -1,11 +1,10 @@
 use Rattle.std.proofs.Common.{◌≡◌, ◌∙◌, ◌<◌, ◌-◌, ℕ, List, ap, arith, length, subst, Some, suc}
-use Rattle.std.specs.Prelude.{slice_get, slice_index_or}
-use Rattle.lk_reach.specs.declared.key.Key.{Key}
-use Rattle.lk_reach.specs.declared.numbers.Numbers.{Numbers}
-use Rattle.lk_reach.specs.declared.numbers.fours.Fours.{Fours}
-use Rattle.lk_reach.specs.Numbers.{four_at, key_at, listed, none}
+use Rattle.std.proofs.Common.{slice_get, slice_index_or}
+use Rattle.lk_reach.proofs.Names.{four_at, key_at, none, Key}
 use Rattle.lk_reach.proofs.Kept.{one_value}
 use Rattle.lk_reach.proofs.Listed.{behind_four, earlier, listed_get, listed_length}
+use Rattle.lk_reach.specs.{Numbers.listed, declared.numbers.Numbers.Numbers}
+use Rattle.lk_reach.specs.declared.numbers.fours.Fours.{Fours}
 use Rattle.lk_reach.proofs.keys.Keys.part.Goals as goal
 
 -- the key of a state is what stands at its number

@@ -1,7 +1,7 @@
 use Rattle.std.proofs.Common.{◌≡◌, ◌∙◌, ◌++◌, ◌∷◌, [], ℕ, List, ap, arith, length, refl, rules}
-use Rattle.lk_reach.specs.declared.key.Key.{Key}
-use Rattle.lk_reach.specs.Numbers.{firsts, four_at, key_at, nth, number_at}
+use Rattle.lk_reach.proofs.Names.{firsts, four_at, key_at, number_at, Key}
 use Rattle.lk_reach.proofs.Listed.{eight_is, listed_more}
+use Rattle.lk_reach.specs.Numbers.{nth}
 use Rattle.lk_reach.proofs.keys.Keys.push.Goals as goal
 
 abbrev key_with : ℕ → List ℕ → Key

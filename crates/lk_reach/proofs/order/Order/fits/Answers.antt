@@ -1,6 +1,5 @@
 use Rattle.std.proofs.Common.{arith, ℕ, subst, sym, inl, inr}
-use Rattle.std.proofs.lemmas.Bool.{cases_eq}
-use Rattle.lk_reach.specs.Order.{IsPlaced}
+use Rattle.lk_reach.proofs.Names.{cases_eq, IsPlaced}
 use Rattle.lk_reach.proofs.order.Order.fits.Goals as goal
 
 pub loop-cpu-preserved : goal.loop-cpu-preserved

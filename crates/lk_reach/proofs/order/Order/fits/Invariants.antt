@@ -1,5 +1,5 @@
 use Rattle.std.proofs.Common.{◌<◌, ℕ}
-use Rattle.lk_reach.specs.Order.{IsPlaced}
+use Rattle.lk_reach.proofs.Names.{IsPlaced}
 use Rattle.lk_reach.proofs.order.Order.fits.Given as goal
 
 -- each processor so far is placed

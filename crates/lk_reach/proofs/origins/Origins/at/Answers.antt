@@ -1,7 +1,5 @@
-use Rattle.std.proofs.Common.{◌≡◌, ◌∙◌, ℕ, List, ap, arith, length, subst, Some}
-use Rattle.std.specs.Prelude.{slice_get}
-use Rattle.lk_reach.specs.declared.origin.Origin.{Origin}
-use Rattle.lk_reach.specs.Numbers.{number_at, origin_at, place_at}
+use Rattle.std.proofs.Common.{◌≡◌, ◌∙◌, ℕ, List, ap, arith, length, subst, Some, slice_get}
+use Rattle.lk_reach.proofs.Names.{number_at, origin_at, place_at, Origin}
 use Rattle.lk_reach.proofs.Listed.{listed_get, listed_length}
 use Rattle.lk_reach.proofs.origins.Origins.at.Goals as goal
 

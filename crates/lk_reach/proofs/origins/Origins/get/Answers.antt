@@ -1,7 +1,5 @@
-use Rattle.std.proofs.Common.{◌≡◌, ◌∙◌, List, None, ap, arith, length, subst, sym}
-use Rattle.std.specs.Prelude.{slice_get}
-use Rattle.lk_reach.specs.declared.origin.Origin.{Origin}
-use Rattle.lk_reach.specs.Numbers.{origin_at}
+use Rattle.std.proofs.Common.{◌≡◌, ◌∙◌, List, None, ap, arith, length, subst, sym, slice_get}
+use Rattle.lk_reach.proofs.Names.{origin_at, Origin}
 use Rattle.lk_reach.proofs.Listed.{listed_length, listed_past}
 use Rattle.lk_reach.proofs.origins.Origins.get.Goals as goal
 

@@ -1,5 +1,5 @@
 use Rattle.std.proofs.Common.{◌∙◌, ap, length, sym}
-use Rattle.lk_reach.specs.Numbers.{origin_at}
+use Rattle.lk_reach.proofs.Names.{origin_at}
 use Rattle.lk_reach.proofs.Listed.{listed_length}
 use Rattle.lk_reach.proofs.origins.Origins.len.Goals as goal
 

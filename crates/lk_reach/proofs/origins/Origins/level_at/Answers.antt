@@ -1,7 +1,5 @@
-use Rattle.std.proofs.Common.{◌≡◌, ap, arith, length, subst, List, Some}
-use Rattle.std.specs.Prelude.{slice_get}
-use Rattle.lk_reach.specs.declared.origin.Origin.{Origin}
-use Rattle.lk_reach.specs.Numbers.{origin_at}
+use Rattle.std.proofs.Common.{◌≡◌, ap, arith, length, subst, List, Some, slice_get}
+use Rattle.lk_reach.proofs.Names.{origin_at, Origin}
 use Rattle.lk_reach.proofs.Listed.{listed_get, listed_length}
 use Rattle.lk_reach.proofs.origins.Origins.level_at.Goals as goal
 

@@ -1,6 +1,5 @@
 use Rattle.std.proofs.Common.{◌≡◌, ◌∙◌, ◌++◌, ◌∷◌, [], ℕ, List, ap, arith}
-use Rattle.lk_reach.specs.declared.origin.Origin.{Origin}
-use Rattle.lk_reach.specs.Numbers.{number_at, origin_at, place_at}
+use Rattle.lk_reach.proofs.Names.{number_at, origin_at, place_at, Origin}
 use Rattle.lk_reach.proofs.Listed.{listed_more}
 use Rattle.lk_reach.proofs.origins.Origins.push.Goals as goal
 

@@ -1,7 +1,6 @@
 use Rattle.std.proofs.Common.{ℕ, arith, get_or, inl, inr, length-set, set, subst, sym, ◌∙◌}
-use Rattle.std.proofs.lemmas.Bool.{cases_eq}
 use Rattle.std.proofs.lemmas.List.{get_or-set_other, get_or-set_same}
-use Rattle.lk_reach.specs.Peers.{IsPeer}
+use Rattle.lk_reach.proofs.Names.{cases_eq, IsPeer}
 use Rattle.lk_reach.proofs.apart.Alike.{first_all}
 use Rattle.lk_reach.proofs.peers.Peers.new.Goals as goal
 

@@ -1,5 +1,5 @@
 use Rattle.std.proofs.Common.{◌≡◌, ◌<◌, ℕ, get_or, length}
-use Rattle.lk_reach.specs.Peers.{IsPeer}
+use Rattle.lk_reach.proofs.Names.{IsPeer}
 use Rattle.lk_reach.proofs.peers.Peers.new.Given as goal
 
 -- each number so far is that of one that is like the processor

@@ -1,12 +1,6 @@
 use Rattle.std.proofs.Common.{arith, ◌≡◌, ◌∙◌, ◌++◌, ◌∷◌, [], List, ap, refl, sym, subst}
-use Rattle.lk_names.specs.declared.events.Act.{Act}
-use Rattle.lk_law.specs.MachineLaws.{AreInRange}
-use Rattle.lk_rows.specs.Machine.{Machine}
-use Rattle.lk_rows.specs.Programs.{IsLawfulSetup}
-use Rattle.lk_rows.specs.declared.setup.Setup.{Setup}
-use Rattle.lk_rows.specs.Run.{at_rest, machine_after}
-use Rattle.lk_reach.specs.Explored.{AreAllMoves}
-use Rattle.lk_reach.specs.Reach.{IsReached, after, bare, cpus_of}
+use Rattle.lk_reach.proofs.Names.{Act, Machine, IsLawfulSetup, at_rest, machine_after, Setup}
+use Rattle.lk_reach.proofs.Names.{AreInRange, AreAllMoves, IsReached, after, bare, cpus_of}
 use Rattle.lk_reach.proofs.Closed as closed
 use Rattle.lk_reach.proofs.plan.Plan.begin.Goals as goal
 

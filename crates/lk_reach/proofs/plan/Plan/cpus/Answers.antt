@@ -1,6 +1,5 @@
 use Rattle.std.proofs.Common.{◌∙◌, subst, sym}
-use Rattle.lk_rows.specs.Machine.{Machine}
-use Rattle.lk_reach.specs.Reach.{IsReached}
+use Rattle.lk_reach.proofs.Names.{Machine, IsReached}
 use Rattle.lk_reach.proofs.Closed as closed
 use Rattle.lk_reach.proofs.plan.Plan.cpus.Goals as goal
 

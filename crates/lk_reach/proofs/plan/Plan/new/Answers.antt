@@ -1,9 +1,6 @@
 use Rattle.std.proofs.Common.{◌≡◌, ◌∙◌, List, ℕ, length, ap, refl, sym, subst}
-use Rattle.lk_names.specs.declared.events.Act.{Act}
-use Rattle.lk_law.specs.MachineLaws.{AreInRange}
-use Rattle.lk_rows.specs.Machine.{Machine, handlers_at}
-use Rattle.lk_rows.specs.Run.{at_rest, machine_after}
-use Rattle.lk_reach.specs.Reach.{bare, cpus_of}
+use Rattle.lk_reach.proofs.Names.{Act, Machine, at_rest, machine_after, AreInRange, bare, cpus_of}
+use Rattle.lk_rows.specs.Machine.{handlers_at}
 use Rattle.lk_reach.proofs.Closed.{not_true, rest_cpus_of, rest_unused}
 use Rattle.lk_reach.proofs.plan.Plan.new.Goals as goal
 

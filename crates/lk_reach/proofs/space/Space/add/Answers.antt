@@ -1,7 +1,6 @@
-use Rattle.std.proofs.Common.{◌≡◌, ℕ, arith, inl, refl, Some, subst, sym, ◌∙◌, ◌++◌, ◌∷◌, [], ap, length, length-append, List}
-use Rattle.std.specs.Prelude.{slice_get}
-use Rattle.lk_reach.specs.declared.key.Key.{Key}
-use Rattle.lk_reach.specs.Space.{SpaceValue}
+use Rattle.std.proofs.Common.{◌≡◌, ℕ, arith, inl, refl, Some, subst, sym, ◌∙◌, ◌++◌, ◌∷◌, [], ap}
+use Rattle.std.proofs.Common.{length, length-append, List, slice_get}
+use Rattle.lk_reach.proofs.Names.{SpaceValue, Key}
 use Rattle.lk_reach.proofs.Formed.{pushed_grows, pushed_last}
 use Rattle.lk_reach.proofs.space.Space.add.Goals as goal
 

@@ -1,5 +1,5 @@
 use Rattle.std.proofs.Common.{◌∙◌, ◌++◌, ◌∷◌, [], ap, length}
-use Rattle.lk_reach.specs.Space.{SpaceValue}
+use Rattle.lk_reach.proofs.Names.{SpaceValue}
 use Rattle.lk_reach.proofs.space.Space.add_fold.Goals as goal
 
 pub returns : goal.returns

@@ -1,9 +1,7 @@
-use Rattle.std.proofs.Common.{arith, ◌≡◌, ℕ, Some, get_or, subst, inl, inr}
-use Rattle.std.specs.Prelude.{slice_get}
-use Rattle.std.proofs.lemmas.Bool.{cases_eq}
-use Rattle.std.proofs.lemmas.Option.{slice_get-get_or, slice_get_within}
-use Rattle.lk_reach.specs.Space.{IsLikePart}
+use Rattle.std.proofs.Common.{arith, ◌≡◌, ℕ, Some, get_or, subst, inl, inr, slice_get}
+use Rattle.lk_reach.proofs.Names.{cases_eq, slice_get-get_or, slice_get_within}
 use Rattle.lk_reach.proofs.Kept.{one_value}
+use Rattle.lk_reach.specs.Space.{IsLikePart}
 use Rattle.lk_reach.proofs.space.Space.are_like.Goals as goal
 
 pub loop-at-preserved : goal.loop-at-preserved

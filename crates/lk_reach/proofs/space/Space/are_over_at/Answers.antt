@@ -1,9 +1,7 @@
 use Rattle.std.proofs.Common.{arith, ◌≡◌, ◌∙◌, ℕ, Some, ap, inl, inr, refl, subst, sym, true}
-use Rattle.std.specs.Prelude.{slice_get}
-use Rattle.std.proofs.lemmas.Bool.{cases_eq}
+use Rattle.std.proofs.Common.{slice_get}
+use Rattle.lk_reach.proofs.Names.{cases_eq, is_over, SpaceValue}
 use Rattle.lk_rows.specs.Machine.{cpu_at}
-use Rattle.lk_machine.specs.Parts.{is_over}
-use Rattle.lk_reach.specs.Space.{SpaceValue}
 use Rattle.lk_reach.proofs.Kept.{one_value, part_there}
 use Rattle.lk_reach.proofs.space.Space.are_over_at.Goals as goal
 

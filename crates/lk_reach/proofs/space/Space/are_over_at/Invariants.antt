@@ -1,7 +1,6 @@
 use Rattle.std.proofs.Common.{◌≡◌, ◌<◌, ℕ, true, length}
-use Rattle.lk_rows.specs.Machine.{Machine, cpu_at}
-use Rattle.lk_machine.specs.Parts.{is_over}
-use Rattle.lk_reach.specs.Space.{Keeps}
+use Rattle.lk_reach.proofs.Names.{Machine, is_over, Keeps}
+use Rattle.lk_rows.specs.Machine.{cpu_at}
 use Rattle.lk_reach.proofs.space.Space.are_over_at.Given as goal
 
 -- each processor so far is done

@@ -1,9 +1,7 @@
-use Rattle.std.proofs.Common.{◌≡◌, arith, is_ok, Some, subst, sym}
-use Rattle.std.specs.Prelude.{slice_get}
+use Rattle.std.proofs.Common.{◌≡◌, arith, is_ok, Some, subst, sym, slice_get}
+use Rattle.lk_reach.proofs.Names.{SpaceValue}
 use Rattle.lk_rows.specs.Machine.{cpu_at}
-use Rattle.lk_reach.specs.Space.{SpaceValue}
-use Rattle.lk_reach.proofs.Formed.{formed_grown, formed_more}
-use Rattle.lk_reach.proofs.Kept.{front_self}
+use Rattle.lk_reach.proofs.{Formed.{formed_grown, formed_more}, Kept.front_self}
 use Rattle.lk_reach.proofs.space.Space.classify.Goals as goal
 
 pub invariant_of-self : goal.invariant_of-self

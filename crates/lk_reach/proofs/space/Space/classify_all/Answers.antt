@@ -1,6 +1,6 @@
-use Rattle.std.proofs.Common.{◌≡◌, arith, get_or, List, Some, subst, sym}
-use Rattle.std.specs.Prelude.{slice_get}
-use Rattle.lk_rows.specs.Machine.{CpuState, Machine, cpu_at}
+use Rattle.std.proofs.Common.{◌≡◌, arith, get_or, List, Some, subst, sym, slice_get}
+use Rattle.lk_reach.proofs.Names.{CpuState, Machine}
+use Rattle.lk_rows.specs.Machine.{cpu_at}
 use Rattle.lk_reach.proofs.Formed.{part_of_key}
 use Rattle.lk_reach.proofs.space.Space.classify_all.Goals as goal
 

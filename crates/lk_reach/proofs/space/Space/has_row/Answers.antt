@@ -1,7 +1,5 @@
-use Rattle.std.proofs.Common.{◌≡◌, ◌∙◌, ap, sym, subst, List, Some}
-use Rattle.std.specs.Prelude.{slice_get}
-use Rattle.lk_rows.specs.Machine.{CpuState}
-use Rattle.lk_reach.specs.Space.{SpaceValue}
+use Rattle.std.proofs.Common.{◌≡◌, ◌∙◌, ap, sym, subst, List, Some, slice_get}
+use Rattle.lk_reach.proofs.Names.{CpuState, SpaceValue}
 use Rattle.lk_reach.proofs.space.Space.has_row.Goals as goal
 
 pub returns : goal.returns

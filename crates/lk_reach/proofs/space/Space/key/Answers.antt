@@ -1,9 +1,6 @@
 use Rattle.std.proofs.Common.{◌∙◌, List, subst, sym}
-use Rattle.lk_rows.specs.Machine.{CpuState}
-use Rattle.lk_machine.specs.Parts.{SharedValue}
-use Rattle.lk_reach.specs.Space.{KeyKeeps}
-use Rattle.lk_reach.proofs.Formed.{same_grows}
-use Rattle.lk_reach.proofs.Left.{grows_then}
+use Rattle.lk_reach.proofs.Names.{CpuState, SharedValue, KeyKeeps}
+use Rattle.lk_reach.proofs.{Formed.same_grows, Left.grows_then}
 use Rattle.lk_reach.proofs.space.Space.key.Goals as goal
 
 pub returns : goal.returns

@@ -1,7 +1,7 @@
 use Rattle.std.proofs.Common.{arith, ◌∙◌, ap, Some, length-set, subst}
-use Rattle.lk_reach.specs.Space.{AreFormed, SpaceValue}
-use Rattle.lk_reach.proofs.Formed.{formed_kept}
-use Rattle.lk_reach.proofs.Kept.{numbered_then, front_then}
+use Rattle.lk_reach.proofs.Names.{SpaceValue}
+use Rattle.lk_reach.proofs.{Formed.formed_kept, Kept.{numbered_then, front_then}}
+use Rattle.lk_reach.specs.Space.{AreFormed}
 use Rattle.lk_reach.proofs.space.Space.key_of.Goals as goal
 
 pub loop-cpu-preserved : goal.loop-cpu-preserved

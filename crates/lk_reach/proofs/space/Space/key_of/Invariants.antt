@@ -1,6 +1,6 @@
 use Rattle.std.proofs.Common.{◌≡◌, length}
+use Rattle.lk_reach.proofs.Names.{HasShared, IsFront}
 use Rattle.lk_reach.proofs.Kept.{Numbered}
-use Rattle.lk_reach.specs.Space.{IsFront, HasShared}
 use Rattle.lk_reach.proofs.space.Space.key_of.Given as goal
 
 -- the parts so far have numbers, and what was met is not forgotten

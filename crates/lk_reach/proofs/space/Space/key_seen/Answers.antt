@@ -1,6 +1,5 @@
-use Rattle.std.proofs.Common.{arith, ◌≡◌, ◌∙◌, ap, Some, length-set, subst}
-use Rattle.std.specs.Prelude.{slice_get}
-use Rattle.lk_reach.specs.Space.{SpaceValue}
+use Rattle.std.proofs.Common.{arith, ◌≡◌, ◌∙◌, ap, Some, length-set, subst, slice_get}
+use Rattle.lk_reach.proofs.Names.{SpaceValue}
 use Rattle.lk_reach.proofs.Kept.{front_self, numbered_then}
 use Rattle.lk_reach.proofs.space.Space.key_seen.Goals as goal
 

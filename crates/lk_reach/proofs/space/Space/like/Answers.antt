@@ -1,5 +1,5 @@
-use Rattle.lk_reach.specs.Space.{IsNumberOf}
 use Rattle.lk_reach.proofs.Formed.{number_alike}
+use Rattle.lk_reach.specs.Space.{IsNumberOf}
 use Rattle.lk_reach.proofs.space.Space.like.Goals as goal
 
 pub returns-then-has_form-clause-alike : goal.returns-then-has_form-clause-alike

@@ -1,10 +1,12 @@
 use Rattle.std.proofs.Common.{arith, ◌≡◌, ◌∙◌, ℕ, ap, get_or, subst, sym, Some, length, ◌+◌}
-use Rattle.std.specs.Prelude.{slice_get}
-use Rattle.lk_rows.specs.Machine.{Machine, cpu_at}
+use Rattle.std.proofs.Common.{slice_get}
+use Rattle.lk_reach.proofs.Names.{slice_get-get_or, slice_get_within, Machine, HasShared}
+use Rattle.lk_reach.proofs.Names.{SpaceValue}
+use Rattle.lk_rows.specs.Machine.{cpu_at}
 use Rattle.lk_machine.specs.Parts.{Holds}
-use Rattle.lk_reach.specs.Space.{HasShared, SpaceValue}
-use Rattle.lk_reach.proofs.Kept.{put_numbered, set_cpus, set_locks, set_shared, set_same_setup, all_numbered, Numbered, key_there, part_there, shared_there, item_there, fitting, put_holds}
-use Rattle.std.proofs.lemmas.Option.{slice_get-get_or, slice_get_within}
+use Rattle.lk_reach.proofs.Kept.{put_numbered, set_cpus, set_locks, set_shared, set_same_setup}
+use Rattle.lk_reach.proofs.Kept.{all_numbered, Numbered, key_there, part_there, shared_there}
+use Rattle.lk_reach.proofs.Kept.{item_there, fitting, put_holds}
 use Rattle.lk_reach.proofs.space.Space.load.Goals as goal
 
 pub put_shared-requires : goal.put_shared-requires

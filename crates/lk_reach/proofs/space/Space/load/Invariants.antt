@@ -1,5 +1,5 @@
 use Rattle.std.proofs.Common.{◌≡◌, length}
-use Rattle.lk_reach.specs.Space.{HasShared}
+use Rattle.lk_reach.proofs.Names.{HasShared}
 use Rattle.lk_reach.proofs.Kept.{Numbered}
 use Rattle.lk_reach.proofs.space.Space.load.Given as goal
 

@@ -1,9 +1,7 @@
-use Rattle.std.proofs.Common.{arith, ◌≡◌, ◌∙◌, List, Some, ap, refl, subst, sym}
-use Rattle.std.specs.Prelude.{slice_get}
-use Rattle.lk_rows.specs.Machine.{CpuState, cpu_at}
-use Rattle.lk_reach.specs.Space.{SpaceValue}
-use Rattle.lk_reach.proofs.Kept.{part_there}
-use Rattle.lk_reach.proofs.Likeness.{row_alike}
+use Rattle.std.proofs.Common.{arith, ◌≡◌, ◌∙◌, List, Some, ap, refl, subst, sym, slice_get}
+use Rattle.lk_reach.proofs.Names.{CpuState, SpaceValue}
+use Rattle.lk_rows.specs.Machine.{cpu_at}
+use Rattle.lk_reach.proofs.{Kept.part_there, Likeness.row_alike}
 use Rattle.lk_reach.proofs.space.Space.makes_other.Goals as goal
 
 pub returns-then-differ_at : goal.returns-then-differ_at

@@ -1,7 +1,6 @@
 use Rattle.std.proofs.Common.{◌∙◌, List, ap, subst, sym}
-use Rattle.lk_rows.specs.Machine.{CpuState}
+use Rattle.lk_reach.proofs.Names.{CpuState, SpaceValue}
 use Rattle.lk_reach.specs.Rows.{MakesMarked}
-use Rattle.lk_reach.specs.Space.{SpaceValue}
 use Rattle.lk_reach.proofs.space.Space.makes_used.Goals as goal
 
 pub returns : goal.returns

@@ -1,6 +1,5 @@
-use Rattle.std.proofs.Common.{◌≡◌, Some, subst, sym}
-use Rattle.std.specs.Prelude.{slice_get}
-use Rattle.lk_reach.specs.Space.{SpaceValue}
+use Rattle.std.proofs.Common.{◌≡◌, Some, subst, sym, slice_get}
+use Rattle.lk_reach.proofs.Names.{SpaceValue}
 use Rattle.lk_reach.proofs.apart.Used.{used_more, used_none}
 use Rattle.lk_reach.proofs.space.Space.mark_parts.Goals as goal
 

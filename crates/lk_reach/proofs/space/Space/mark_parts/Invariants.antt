@@ -1,6 +1,5 @@
-use Rattle.std.proofs.Common.{◌≡◌, Some}
-use Rattle.std.specs.Prelude.{slice_get}
-use Rattle.lk_reach.specs.declared.key.Key.{Key}
+use Rattle.std.proofs.Common.{◌≡◌, Some, slice_get}
+use Rattle.lk_reach.proofs.Names.{Key}
 use Rattle.lk_reach.specs.Rows.{AreUsedNow}
 use Rattle.lk_reach.proofs.space.Space.mark_parts.Given as goal
 

@@ -1,11 +1,6 @@
 use Rattle.std.proofs.Common.{arith, ap, ◌∙◌, length, List, subst, sym}
-use Rattle.std.proofs.lemmas.Option.{slice_get_within}
-use Rattle.lk_rows.specs.Machine.{CpuState}
-use Rattle.lk_machine.specs.Parts.{SharedValue}
-use Rattle.lk_reach.specs.declared.key.Key.{Key}
-use Rattle.lk_reach.specs.Space.{KeyKeeps}
-use Rattle.lk_reach.proofs.Formed.{number_alike}
-use Rattle.lk_reach.proofs.Left.{grows_then}
+use Rattle.lk_reach.proofs.Names.{slice_get_within, CpuState, SharedValue, KeyKeeps, Key}
+use Rattle.lk_reach.proofs.{Formed.number_alike, Left.grows_then}
 use Rattle.lk_reach.proofs.space.Space.note.Goals as goal
 
 pub returns : goal.returns

@@ -1,8 +1,5 @@
 use Rattle.std.proofs.Common.{List, ap, arith, length, subst, sym}
-use Rattle.lk_rows.specs.Machine.{CpuState}
-use Rattle.lk_machine.specs.Parts.{SharedValue}
-use Rattle.lk_reach.specs.declared.key.Key.{Key}
-use Rattle.lk_reach.specs.Space.{KeyKeeps}
+use Rattle.lk_reach.proofs.Names.{CpuState, SharedValue, KeyKeeps, Key}
 use Rattle.lk_reach.proofs.Left.{grows_then}
 use Rattle.lk_reach.proofs.space.Space.note_fold.Goals as goal
 

@@ -1,4 +1,4 @@
-use Rattle.std.proofs.lemmas.Option.{slice_get_within}
+use Rattle.lk_reach.proofs.Names.{slice_get_within}
 use Rattle.lk_reach.proofs.Formed.{number_alike}
 use Rattle.lk_reach.proofs.space.Space.note_key.Goals as goal
 

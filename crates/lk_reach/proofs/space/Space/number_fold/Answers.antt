@@ -1,9 +1,7 @@
-use Rattle.std.proofs.Common.{◌≡◌, ◌∙◌, ◌∷◌, [], List, Some, ap, arith, inl, length, length-append, refl, subst, sym}
-use Rattle.std.specs.Prelude.{slice_get}
-use Rattle.std.proofs.lemmas.Option.{slice_get_within}
-use Rattle.lk_reach.specs.declared.key.Key.{Key}
-use Rattle.lk_reach.proofs.Formed.{folded_grows, pushed_last}
-use Rattle.lk_reach.proofs.Left.{grows_self}
+use Rattle.std.proofs.Common.{◌≡◌, ◌∙◌, ◌∷◌, [], List, Some, ap, arith, inl, length, length-append}
+use Rattle.std.proofs.Common.{refl, subst, sym, slice_get}
+use Rattle.lk_reach.proofs.Names.{slice_get_within, Key}
+use Rattle.lk_reach.proofs.{Formed.{folded_grows, pushed_last}, Left.grows_self}
 use Rattle.lk_reach.proofs.space.Space.number_fold.Goals as goal
 
 pub returns-in-Some : goal.returns-in-Some

@@ -1,7 +1,6 @@
 use Rattle.std.proofs.Common.{◌∙◌, List, ap, subst}
-use Rattle.lk_rows.specs.Machine.{CpuState}
+use Rattle.lk_reach.proofs.Names.{CpuState, SpaceValue}
 use Rattle.lk_reach.specs.Ends.{AreOvers}
-use Rattle.lk_reach.specs.Space.{SpaceValue}
 use Rattle.lk_reach.proofs.space.Space.overs.Goals as goal
 
 pub returns : goal.returns

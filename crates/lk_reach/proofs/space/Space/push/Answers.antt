@@ -1,5 +1,5 @@
 use Rattle.std.proofs.Common.{◌∙◌, ◌++◌, ◌∷◌, [], ap}
-use Rattle.lk_reach.specs.Space.{SpaceValue}
+use Rattle.lk_reach.proofs.Names.{SpaceValue}
 use Rattle.lk_reach.proofs.space.Space.push.Goals as goal
 
 pub returns-clause-keys : goal.returns-clause-keys

@@ -1,10 +1,7 @@
-use Rattle.std.proofs.Common.{arith, ◌≡◌, ◌∙◌, ap, length, subst, Some}
-use Rattle.std.specs.Prelude.{slice_get}
+use Rattle.std.proofs.Common.{arith, ◌≡◌, ◌∙◌, ap, length, subst, Some, slice_get}
 use Rattle.std.proofs.lemmas.Bool.{lt-ltb}
-use Rattle.std.proofs.lemmas.Option.{slice_get_within}
-use Rattle.lk_rows.specs.Machine.{CpuState, cpu_at}
-use Rattle.lk_machine.specs.Parts.{row_of}
-use Rattle.lk_reach.specs.Space.{SpaceValue}
+use Rattle.lk_reach.proofs.Names.{slice_get_within, CpuState, row_of, SpaceValue}
+use Rattle.lk_rows.specs.Machine.{cpu_at}
 use Rattle.lk_reach.proofs.Kept.{got, key_there, one_value, part_there}
 use Rattle.lk_reach.proofs.space.Space.row_at.Goals as goal
 

@@ -1,8 +1,5 @@
 use Rattle.std.proofs.Common.{arith, ◌<◌, ◌∙◌, [], ℕ, ap, get_or, length, subst}
-use Rattle.std.proofs.lemmas.Option.{slice_get-get_or}
-use Rattle.lk_reach.specs.declared.key.Key.{Key}
-use Rattle.lk_reach.specs.Rows.{AreUsed}
-use Rattle.lk_reach.specs.Space.{SpaceValue}
+use Rattle.lk_reach.proofs.Names.{slice_get-get_or, AreUsed, SpaceValue, Key}
 use Rattle.lk_reach.proofs.apart.Used.{unused, used_then}
 use Rattle.lk_reach.proofs.space.Space.used.Goals as goal
 

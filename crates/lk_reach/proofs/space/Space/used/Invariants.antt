@@ -1,4 +1,4 @@
-use Rattle.lk_reach.specs.Rows.{AreUsed}
+use Rattle.lk_reach.proofs.Names.{AreUsed}
 use Rattle.lk_reach.proofs.space.Space.used.Given as goal
 
 -- each mark says whether one of the states so far has the part

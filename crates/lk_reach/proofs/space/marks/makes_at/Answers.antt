@@ -1,8 +1,5 @@
-use Rattle.std.proofs.Common.{◌≡◌, ◌∙◌, Some, ap, sym}
-use Rattle.std.specs.Prelude.{slice_get}
-use Rattle.std.proofs.lemmas.Option.{slice_get-get_or}
-use Rattle.lk_rows.specs.Machine.{CpuState}
-use Rattle.lk_machine.specs.Parts.{row_of}
+use Rattle.std.proofs.Common.{◌≡◌, ◌∙◌, Some, ap, sym, slice_get}
+use Rattle.lk_reach.proofs.Names.{slice_get-get_or, CpuState, row_of}
 use Rattle.lk_reach.proofs.Kept.{one_value}
 use Rattle.lk_reach.proofs.space.marks.makes_at.Goals as goal
 

@@ -1,11 +1,7 @@
-use Rattle.std.proofs.Common.{arith, ◌≡◌, ◌+◌, ◌∷◌, [], ◌++◌, ◌∙◌, ℕ, Bool, List, Some, ap, inl, inr, length, length-append, subst, sym}
-use Rattle.std.specs.Prelude.{slice_get}
-use Rattle.std.proofs.lemmas.Bool.{cases_eq}
-use Rattle.std.proofs.lemmas.Option.{slice_get-get_or, slice_get_within}
-use Rattle.lk_rows.specs.Machine.{CpuState}
-use Rattle.lk_machine.specs.Parts.{is_over}
-use Rattle.lk_reach.proofs.Kept.{front_get, one_value}
-use Rattle.lk_reach.proofs.apart.Used.{last_mark}
+use Rattle.std.proofs.Common.{arith, ◌≡◌, ◌+◌, ◌∷◌, [], ◌++◌, ◌∙◌, ℕ, Bool, List, Some, ap, inl}
+use Rattle.std.proofs.Common.{inr, length, length-append, subst, sym, slice_get}
+use Rattle.lk_reach.proofs.Names.{cases_eq, slice_get-get_or, slice_get_within, CpuState, is_over}
+use Rattle.lk_reach.proofs.{Kept.{front_get, one_value}, apart.Used.last_mark}
 use Rattle.lk_reach.proofs.space.marks.overs.Goals as goal
 
 pub loop-at-init : goal.loop-at-init

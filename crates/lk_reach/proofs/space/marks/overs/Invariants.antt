@@ -1,7 +1,5 @@
-use Rattle.std.proofs.Common.{◌≡◌, ◌<◌, ℕ, Some, length}
-use Rattle.std.specs.Prelude.{slice_get}
-use Rattle.lk_rows.specs.Machine.{CpuState}
-use Rattle.lk_machine.specs.Parts.{is_over}
+use Rattle.std.proofs.Common.{◌≡◌, ◌<◌, ℕ, Some, length, slice_get}
+use Rattle.lk_reach.proofs.Names.{CpuState, is_over}
 use Rattle.lk_reach.proofs.space.marks.overs.Given as goal
 
 -- each mark so far says whether its part is done

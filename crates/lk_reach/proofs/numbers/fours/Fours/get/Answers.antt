@@ -1,7 +1,7 @@
-use Rattle.std.proofs.Common.{◌∙◌, List, ℕ, ap, arith, sym}
-use Rattle.std.specs.Prelude.{slice_index_or}
-use Rattle.lk_reach.specs.Numbers.{joined, none}
+use Rattle.std.proofs.Common.{◌∙◌, List, ℕ, ap, arith, sym, slice_index_or}
+use Rattle.lk_reach.proofs.Names.{none}
 use Rattle.lk_reach.proofs.Listed.{past}
+use Rattle.lk_reach.specs.Numbers.{joined}
 use Rattle.lk_reach.proofs.numbers.fours.Fours.get.Goals as goal
 
 pub returns-then-at-len : goal.returns-then-at-len
