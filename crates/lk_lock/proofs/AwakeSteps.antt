@@ -1,35 +1,27 @@
 -- The same where the family spins, by what the calls of `lk_run` leave.
-use Rattle.std.proofs.Common.{◌≡◌, ℕ, ◌+◌, ◌-◌, List, length, None, Bool, true, false, refl, sym, ap, ◌∙◌, subst, inl, inr, arith}
+use Rattle.std.proofs.Common.{◌≡◌, ℕ, ◌+◌, ◌-◌, List, length, None, Bool, true, false, refl, sym}
+use Rattle.std.proofs.Common.{ap, ◌∙◌, subst, inl, inr, arith, if◌then◌else◌}
 use Rattle.std.proofs.lemmas.Bool.{cases_Bool}
-use Rattle.std.specs.Prelude.{if◌then◌else◌}
-use Rattle.lk_names.specs.declared.holder.Manner.{Manner}
-use Rattle.lk_names.specs.declared.holder.Manner.TheVariants.{Reads, Spins, Writes}
-use Rattle.lk_names.specs.declared.names.Kind.TheVariants.{Rw, Spin}
-use Rattle.lk_names.specs.declared.names.LockName.{LockName}
-use Rattle.lk_law.specs.Agree.{halts}
-use Rattle.lk_rows.specs.declared.setup.Verb.{Verb}
-use Rattle.lk_rows.specs.declared.parts.Pc.{Pc}
-use Rattle.lk_rows.specs.declared.parts.Pc.TheVariants.{Z1, Z2}
-use Rattle.lk_rows.specs.declared.setup.Verb.TheVariants.{Lock, Read, TryWrite, Write}
-use Rattle.lk_domain.specs.Calls.{Calls, Frees, Mark, Running, Takes, begun, free_of, holds_in, lock_name, moved_to, terms_of, waits_in}
+use Rattle.lk_lock.proofs.Names.{Manner, Reads, Spins, Writes, Rw, Z1, Z2, Verb, Lock, Read, Write}
+use Rattle.lk_lock.proofs.Names.{halts, Mark, holds_in, lock_name, terms_of, IsSame, calls_of, Cpu}
+use Rattle.lk_lock.proofs.Names.{Domain, starting, IsAsBefore, IsHolding, IsReady, holds_of}
+use Rattle.lk_lock.proofs.Names.{HasLocked}
+use Rattle.lk_names.specs.{declared.names.Kind.TheVariants.Spin, declared.names.LockName.LockName}
+use Rattle.lk_rows.specs.{declared.parts.Pc.Pc, declared.setup.Verb.TheVariants.TryWrite}
+use Rattle.lk_domain.proofs.{FreeTurns.freed_frames, Holds.dropped, Seating.of_in}
+use Rattle.lk_domain.specs.Calls.{Calls, Frees, Running, Takes, begun, free_of, moved_to, waits_in}
 use Rattle.lk_domain.specs.Ledgers.{Ledger, closed, is_first, turned}
 use Rattle.lk_domain.specs.Paths.{HasFreed, HasLooked, HasMissed, HasTaken, Path}
-use Rattle.lk_domain.specs.Seats.{IsOf, IsSame, KeepsRest, calls_of, ledger_of}
-use Rattle.lk_domain.specs.Turns.{HasLeft, Turns}
+use Rattle.lk_domain.specs.{Seats.{IsOf, KeepsRest, ledger_of}, Turns.{HasLeft, Turns}}
 use Rattle.lk_domain.specs.Waits.{Drops, Gains, Misses}
-use Rattle.lk_domain.specs.declared.cpu.Cpu.{Cpu}
-use Rattle.lk_domain.specs.declared.domain.Domain.{Domain}
-use Rattle.lk_domain.proofs.FreeTurns.{freed_frames}
-use Rattle.lk_domain.proofs.Seating.{of_in}
 use Rattle.lk_pvdomain.specs.PvCalls.{IsResting}
-use Rattle.lk_run.specs.Entering.{HasEntered, Leaves}
-use Rattle.lk_run.specs.Phases.{Holds, starting}
 use Rattle.lk_run.proofs.RwFast.{at_once}
-use Rattle.lk_lock.specs.Standing.{EntersLock, EntersOnce, FreesLock, HasBeenIn, HasTurnedIn, IsAsBefore, IsHolding, IsOfKind, IsReady, LeavesLock, StaysOut, TakesLock, TurnsLock, holds_of}
-use Rattle.lk_lock.specs.Turns.{FreesBy, HasLocked, HasUnlocked}
-use Rattle.lk_domain.proofs.Holds.{dropped}
+use Rattle.lk_run.specs.{Entering.{HasEntered, Leaves}, Phases.Holds}
 use Rattle.lk_lock.proofs.Marks.{turned_out}
 use Rattle.lk_lock.proofs.Steps.{after_call, as_before, come_in, holding, newest}
+use Rattle.lk_lock.specs.Standing.{EntersLock, EntersOnce, FreesLock, HasBeenIn, HasTurnedIn}
+use Rattle.lk_lock.specs.Standing.{IsOfKind, LeavesLock, StaysOut, TakesLock, TurnsLock}
+use Rattle.lk_lock.specs.Turns.{FreesBy, HasUnlocked}
 
 -- a domain that has a reader-writer lock halts none
 pub awake_rw : (d : Domain) (l : ℕ) → IsOfKind d.plan Rw l → halts d.plan.mode ≡ false

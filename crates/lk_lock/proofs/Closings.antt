@@ -1,16 +1,12 @@
 -- The keys of a domain that is closed.
-use Rattle.std.proofs.Common.{◌≡◌, ℕ, zero, suc, ◌<◌, List, [], ◌∷◌, length, Option, Some, None, refl, sym, ap, ◌∙◌, subst, arith}
-use Rattle.std.specs.Prelude.{slice_get, slice_index_or}
-use Rattle.atomic_table.specs.Seated.{TableId}
-use Rattle.lk_cell.specs.Latched.{IsKey}
-use Rattle.lk_domain.specs.Values.{Key, Slot, Fits, AreLaid, id_of, keys_of, lodged}
-use Rattle.lk_domain.specs.declared.plan.Plan.{Plan}
+use Rattle.std.proofs.Common.{◌≡◌, ℕ, zero, suc, ◌<◌, List, [], ◌∷◌, length, Option, Some, None}
+use Rattle.std.proofs.Common.{refl, sym, ap, ◌∙◌, subst, arith, slice_get, slice_index_or}
+use Rattle.lk_lock.proofs.Names.{TableId, Rw, IsKey, Key, keys_of, Plan}
+use Rattle.lk_domain.specs.Values.{Slot, Fits, AreLaid, id_of, lodged}
 use Rattle.lk_domain.specs.declared.slot.Stowed.TheVariants.{CellKey}
-use Rattle.lk_names.specs.declared.names.Kind.TheVariants.{Rw}
-use Rattle.lk_lock.specs.Ended.{HasAllKeys, HasKeyOf}
-use Rattle.lk_lock.specs.Standing.{IsSharedUnder}
-use Rattle.lk_lock.specs.declared.keys.Keys.{Keys}
 use Rattle.lk_lock.proofs.Laid.{own_under}
+use Rattle.lk_lock.specs.{Ended.{HasAllKeys, HasKeyOf}, Standing.IsSharedUnder}
+use Rattle.lk_lock.specs.declared.keys.Keys.{Keys}
 
 -- what stands at a place of the list
 record StandsAt (xs : List (Option Key)) (l : ℕ) : Type 0 where

@@ -1,28 +1,19 @@
 -- The same where the family halts, by what the calls of `lk_pvdomain` leave.
-use Rattle.std.proofs.Common.{◌≡◌, ℕ, ◌<◌, List, ◌∷◌, Bool, true, false, refl, sym, ap, ◌∙◌, subst, arith}
+use Rattle.std.proofs.Common.{◌≡◌, ℕ, ◌<◌, List, ◌∷◌, Bool, true, false, refl, sym, ap, ◌∙◌, subst}
+use Rattle.std.proofs.Common.{arith}
+use Rattle.lk_lock.proofs.Names.{Spins, Verb, halts, Hold, holds_in, lock_name, terms_of, locks_of}
+use Rattle.lk_lock.proofs.Names.{IsSame, calls_of, Cpu, Domain, Plan, View, is_let, first_node}
+use Rattle.lk_lock.proofs.Names.{first_of, IsHolding, IsReady, holds_of, HasLocked}
 use Rattle.atomic_table.specs.declared.shared.Seat.{Seat}
-use Rattle.lk_names.specs.declared.holder.Manner.TheVariants.{Spins}
-use Rattle.lk_law.specs.Agree.{halts}
-use Rattle.lk_rows.specs.declared.setup.Verb.{Verb}
 use Rattle.lk_rows.specs.declared.setup.Verb.TheVariants.{Unlock}
-use Rattle.lk_domain.specs.Calls.{Frees, Hold, hold, holds_begun, holds_in, lock_name, terms_of}
-use Rattle.lk_domain.specs.Plans.{locks_of}
-use Rattle.lk_domain.specs.Seats.{IsSame, calls_of}
-use Rattle.lk_domain.specs.Values.{Slot}
-use Rattle.lk_domain.specs.Who.{Who}
-use Rattle.lk_domain.specs.declared.cpu.Cpu.{Cpu}
-use Rattle.lk_domain.specs.declared.domain.Domain.{Domain}
-use Rattle.lk_domain.specs.declared.plan.Plan.{Plan}
-use Rattle.lk_domain.specs.declared.view.View.{View}
 use Rattle.lk_domain.proofs.seats.Places.{carried_same}
-use Rattle.lk_pvdomain.specs.PvCalls.{MayFree, without}
-use Rattle.lk_pvdomain.specs.PvPaths.{Ended, Rests, Took, first_node, first_of}
-use Rattle.lk_pvdomain.proofs.ways.Frees.{IsLet, freed_none, freed_others, is_let}
+use Rattle.lk_domain.specs.{Calls.{Frees, hold, holds_begun}, Values.Slot, Who.Who}
+use Rattle.lk_pvdomain.proofs.ways.Frees.{IsLet, freed_none, freed_others}
 use Rattle.lk_pvdomain.proofs.ways.Kept.{IsKept, IsSeated}
-use Rattle.lk_lock.specs.Standing.{FreesLock, IsHolding, IsReady, TakesLock, holds_of}
-use Rattle.lk_lock.specs.Turns.{FreesBy, HasLocked}
+use Rattle.lk_pvdomain.specs.{PvCalls.{MayFree, without}, PvPaths.{Ended, Rests, Took}}
 use Rattle.lk_lock.proofs.Marks.{left_without}
 use Rattle.lk_lock.proofs.Steps.{after_call, as_before, is_held, locked_last, none_out}
+use Rattle.lk_lock.specs.{Standing.{FreesLock, TakesLock}, Turns.FreesBy}
 
 module _ (d : Domain) (old : Cpu) (was : IsReady d old) (on : halts d.plan.mode ≡ true) where
   -- the processor, as the calls ask for it

@@ -1,16 +1,14 @@
 -- Keys of cells in the order of a domain's homes.
-use Rattle.std.proofs.Common.{◌≡◌, ℕ, zero, suc, ◌+◌, ◌*◌, ◌<◌, List, [], ◌∷◌, ◌++◌, length, Option, Some, None, false, refl, sym, ap, ◌∙◌, subst, arith}
-use Rattle.std.specs.Prelude.{slice_get, slice_set, unwrap_or}
+use Rattle.std.proofs.Common.{◌≡◌, ℕ, zero, suc, ◌+◌, ◌*◌, ◌<◌, List, [], ◌∷◌, ◌++◌, length, Option}
+use Rattle.std.proofs.Common.{Some, None, false, refl, sym, ap, ◌∙◌, subst, arith, slice_get}
+use Rattle.std.proofs.Common.{slice_set}
 use Rattle.std.proofs.Math.Nat.{suc-mul, zero-add}
-use Rattle.atomic_table.specs.Seated.{TableId}
-use Rattle.lk_names.specs.ListOf.{ListOf}
-use Rattle.lk_names.specs.declared.names.Kind.TheVariants.{Rw}
-use Rattle.lk_cell.specs.Latched.{IsKey}
+use Rattle.std.specs.Prelude.{unwrap_or}
+use Rattle.lk_lock.proofs.Names.{TableId, ListOf, Rw, IsKey, locks_of, Key, Plan, AreKeysOf}
+use Rattle.lk_lock.proofs.Names.{all_behind, firsts, laid, names_of}
 use Rattle.lk_cell.specs.declared.cell.KeyCell.{KeyCell}
-use Rattle.lk_domain.specs.Plans.{locks_of}
-use Rattle.lk_domain.specs.Values.{AreShut, Key, cell_of}
-use Rattle.lk_domain.specs.declared.plan.Plan.{Plan}
-use Rattle.lk_lock.specs.Cells.{AllShut, AreKeysOf, EachShut, all_behind, behind, firsts, laid, later, names_of}
+use Rattle.lk_domain.specs.Values.{AreShut, cell_of}
+use Rattle.lk_lock.specs.Cells.{AllShut, EachShut, behind, later}
 use Rattle.lk_lock.specs.Standing.{IsSharedUnder, IsUnder}
 
 -- each cell has its key at its place

@@ -1,26 +1,17 @@
 -- A turn that had to wait, by the manner in which it held its lock.
 use Rattle.std.proofs.Common.{◌≡◌, ℕ, None, true, false, eq-eqb, refl, sym, ◌∙◌, subst}
-use Rattle.lk_names.specs.declared.holder.Manner.{Manner}
-use Rattle.lk_names.specs.declared.holder.Manner.TheVariants.{Reads, Spins, Writes}
-use Rattle.lk_rows.specs.declared.parts.Pc.TheVariants.{Z1, Z2}
-use Rattle.lk_rows.specs.declared.setup.Verb.{Verb}
-use Rattle.lk_rows.specs.declared.setup.Verb.TheVariants.{Lock, Read, Write}
-use Rattle.lk_law.specs.Agree.{halts}
-use Rattle.lk_domain.specs.Calls.{lock_name, terms_of}
-use Rattle.lk_domain.specs.Seats.{IsStill, KeepsRest, calls_of}
-use Rattle.lk_domain.specs.declared.cpu.Cpu.{Cpu}
-use Rattle.lk_domain.specs.declared.domain.Domain.{Domain}
-use Rattle.lk_domain.specs.declared.view.View.{View}
-use Rattle.lk_run.specs.Phases.{Arrives, CameIn, Holds, starting}
-use Rattle.lk_run.specs.PolledRead as read
-use Rattle.lk_run.specs.PolledWrite as write
-use Rattle.lk_run.proofs.Fast.{arrives}
-use Rattle.lk_run.proofs.RwFast.{reader_waits, writer_waits}
-use Rattle.lk_run.proofs.Steps.{rest_both}
-use Rattle.lk_lock.specs.Standing.{ComesIn, EntersLock, GoesOut, HasTurnedIn, IsAsBefore, IsHolding, IsReady, TurnsLock, WaitsSince}
-use Rattle.lk_lock.specs.Turns.{HasUnlocked}
+use Rattle.lk_lock.proofs.Names.{Manner, Reads, Spins, Writes, Z1, Z2, Verb, Lock, Read, Write}
+use Rattle.lk_lock.proofs.Names.{halts, lock_name, terms_of, IsStill, calls_of, Cpu, Domain, View}
+use Rattle.lk_lock.proofs.Names.{starting, IsAsBefore, IsHolding, IsReady}
+use Rattle.lk_domain.specs.Seats.{KeepsRest}
+use Rattle.lk_run.proofs.{Fast.arrives, RwFast.{reader_waits, writer_waits}, Steps.rest_both}
+use Rattle.lk_run.specs.Phases.{Arrives, CameIn, Holds}
 use Rattle.lk_lock.proofs.AwakeSteps.{enters, is_of, none_waits, takes_late}
 use Rattle.lk_lock.proofs.Steps.{been_in, still_holding}
+use Rattle.lk_lock.specs.Standing.{ComesIn, EntersLock, GoesOut, HasTurnedIn, TurnsLock, WaitsSince}
+use Rattle.lk_lock.specs.Turns.{HasUnlocked}
+use Rattle.lk_run.specs.PolledRead as read
+use Rattle.lk_run.specs.PolledWrite as write
 
 -- its first row did not find the lock free, and then it took it
 module _ (d : Domain) (awake : halts d.plan.mode ≡ false) (l met : ℕ) (old now new : Cpu) where

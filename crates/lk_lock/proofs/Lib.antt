@@ -1,3 +1,4 @@
+pub mod Names
 pub mod Marks
 pub mod Steps
 pub mod AwakeSteps

@@ -1,19 +1,14 @@
 -- A lock more among those to be made, and all of them in a domain.
-use Rattle.std.proofs.Common.{◌≡◌, ℕ, ◌+◌, ◌*◌, ◌<◌, List, [], ◌∷◌, ◌++◌, length, Option, Some, true, refl, sym, ap, ◌∙◌, subst}
-use Rattle.std.specs.Prelude.{slice_get}
+use Rattle.std.proofs.Common.{◌≡◌, ℕ, ◌+◌, ◌*◌, ◌<◌, List, [], ◌∷◌, ◌++◌, length, Option, Some}
+use Rattle.std.proofs.Common.{true, refl, sym, ap, ◌∙◌, subst, slice_get}
 use Rattle.std.proofs.lemmas.Option.{slice_get_within, get_or_from_slice_get}
-use Rattle.atomic_table.specs.Seated.{TableId}
+use Rattle.lk_lock.proofs.Names.{TableId, ListOf, Rw, locks_of, Key, keys_of, Plan, AreKeysOf, laid}
 use Rattle.lk_names.proofs.ByIndex.{get-append_new, get-append_old}
-use Rattle.lk_names.specs.ListOf.{ListOf}
-use Rattle.lk_names.specs.declared.names.Kind.{Kind}
-use Rattle.lk_names.specs.declared.names.Kind.TheVariants.{Rw, Spin}
-use Rattle.lk_domain.specs.Plans.{cpus_of, locks_of, kind_at}
-use Rattle.lk_domain.specs.Values.{Key, cell_of, id_of, keys_of}
-use Rattle.lk_domain.specs.declared.plan.Plan.{Plan}
-use Rattle.lk_lock.specs.Cells.{AreKeysOf, laid}
+use Rattle.lk_names.specs.{declared.names.Kind.Kind, declared.names.Kind.TheVariants.Spin}
+use Rattle.lk_domain.specs.{Plans.{cpus_of, kind_at}, Values.{cell_of, id_of}}
+use Rattle.lk_lock.proofs.Laid.{key_at, laid_at, none_before}
 use Rattle.lk_lock.specs.Made.{AreAmong, AreMade, AreSharedMade, Keeps, KeepsShared}
 use Rattle.lk_lock.specs.declared.locks.Locks.{Locks}
-use Rattle.lk_lock.proofs.Laid.{key_at, laid_at, none_before}
 
 module _ (old new : Locks) (kind : Kind) (keys : ListOf Key) (kinds : new.kinds.items ≡ old.kinds.items ++ kind ∷ [])
     (more : new.keys.items ≡ old.keys.items ++ keys ∷ []) where

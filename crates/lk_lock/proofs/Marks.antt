@@ -1,15 +1,12 @@
 -- A look that begins, and a lock that is freed where the family halts.
-use Rattle.std.proofs.Common.{◌≡◌, ℕ, List, [], ◌∷◌, Bool, true, false, refl, sym, ap, ◌∙◌, inl, inr}
+use Rattle.std.proofs.Common.{◌≡◌, ℕ, List, [], ◌∷◌, Bool, true, false, refl, sym, ap, ◌∙◌, inl}
+use Rattle.std.proofs.Common.{inr, if◌then◌else◌}
 use Rattle.std.proofs.lemmas.Bool.{cases_Bool}
-use Rattle.std.specs.Prelude.{if◌then◌else◌}
-use Rattle.lk_names.specs.Names.{same_lock}
-use Rattle.lk_names.specs.declared.holder.Manner.{Manner}
-use Rattle.lk_names.specs.declared.names.LockName.{LockName}
-use Rattle.lk_law.proofs.common.Puts.{if-true, if-false}
-use Rattle.lk_law.proofs.common.Sames.{same_lock-self}
-use Rattle.lk_domain.specs.Calls.{Mark, Hold, Takes, holds_in, lock_name}
-use Rattle.lk_domain.specs.Ledgers.{Ledger, turned, opened, is_first}
+use Rattle.lk_lock.proofs.Names.{Manner, Hold, Mark, holds_in, lock_name}
+use Rattle.lk_names.specs.{Names.same_lock, declared.names.LockName.LockName}
+use Rattle.lk_law.proofs.{common.Puts.{if-true, if-false}, common.Sames.same_lock-self}
 use Rattle.lk_domain.proofs.Holds.{mine}
+use Rattle.lk_domain.specs.{Calls.Takes, Ledgers.{Ledger, turned, opened, is_first}}
 use Rattle.lk_pvdomain.specs.PvCalls.{without}
 
 -- a look that begins leaves the journal where it is

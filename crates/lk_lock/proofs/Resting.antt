@@ -1,15 +1,10 @@
 -- A processor that rests is ready to take locks, and rests again once it has freed them.
-use Rattle.std.proofs.Common.{◌≡◌, ℕ, ◌∙◌, List, ◌∷◌, ap}
-use Rattle.atomic_table.specs.Seated.{TableId}
-use Rattle.atomic_table.specs.Table.{rest}
-use Rattle.atomic_table.specs.Lent.{seat_with}
-use Rattle.atomic_table.specs.declared.shared.Seat.{Seat}
-use Rattle.std.specs.Prelude.{Bool, false}
-use Rattle.lk_domain.specs.Calls.{Hold, holds_in}
+use Rattle.std.proofs.Common.{◌≡◌, ℕ, ◌∙◌, List, ◌∷◌, ap, Bool, false}
+use Rattle.lk_lock.proofs.Names.{TableId, Hold, holds_in, Cpu, Domain, IsAsBefore, IsReady}
+use Rattle.lk_lock.proofs.Names.{holds_of}
+use Rattle.atomic_table.specs.{Lent.seat_with, Table.rest, declared.shared.Seat.Seat}
+use Rattle.lk_lock.specs.Standing.{AllRest, HasOpened, Rests}
 use Rattle.lk_domain.specs.Ends as ends
-use Rattle.lk_domain.specs.declared.cpu.Cpu.{Cpu}
-use Rattle.lk_domain.specs.declared.domain.Domain.{Domain}
-use Rattle.lk_lock.specs.Standing.{AllRest, HasOpened, IsAsBefore, IsReady, Rests, holds_of}
 
 pub rests_again : (d : Domain) (i : ℕ) (old new : Cpu) → Rests d i old → IsReady d new → IsAsBefore old new
     → Rests d i new

@@ -1,28 +1,22 @@
 -- How a processor stands once it has taken a lock, and once it has freed it; and in between, with the
 -- value of the lock out, and home again.
-use Rattle.std.proofs.Common.{◌≡◌, ℕ, ◌+◌, ◌-◌, ◌<◌, List, [], ◌∷◌, ◌++◌, length, true, false, refl, sym, ap, ◌∙◌, subst, Some, arith, length-append}
-use Rattle.lk_names.specs.declared.holder.Manner.{Manner}
-use Rattle.lk_names.specs.declared.holder.Manner.TheVariants.{Spins}
-use Rattle.lk_law.specs.Agree.{halts}
-use Rattle.lk_rows.specs.declared.setup.Verb.{Verb}
-use Rattle.lk_domain.specs.Calls.{Terms, Mark, Running, Hold, hold, Calls, holds_in, hold_in, way_in, lock_name}
-use Rattle.lk_domain.specs.Plans.{cpus_of}
-use Rattle.lk_domain.specs.Seats.{BringsValueOf, IsIn, IsSame, IsStill, TakesValueOf, calls_of, ledger_of, view_of}
-use Rattle.lk_domain.specs.Values.{IsClear, IsHomeWith, bringing, is_sole, marked_out, older, out_in, taking}
-use Rattle.lk_domain.specs.Who.{Who}
-use Rattle.lk_domain.specs.declared.cpu.Cpu.{Cpu}
-use Rattle.lk_domain.specs.declared.domain.Domain.{Domain}
-use Rattle.lk_domain.specs.declared.view.View.{View}
-use Rattle.lk_pvdomain.specs.PvCalls.{IsResting}
-use Rattle.lk_domain.specs.Turns.{HasLeft}
-use Rattle.lk_run.specs.Entering.{HasEntered}
-use Rattle.lk_rows.specs.declared.parts.Pc.{Pc}
-use Rattle.lk_lock.specs.Standing.{HasBeenIn, HasComeIn, IsAsBefore, IsHolding, IsInside, IsReady, holds_of, home_calls}
-use Rattle.lk_lock.specs.Turns.{HasLocked}
+use Rattle.std.proofs.Common.{◌≡◌, ℕ, ◌+◌, ◌-◌, ◌<◌, List, [], ◌∷◌, ◌++◌, length, true, false, refl}
+use Rattle.std.proofs.Common.{sym, ap, ◌∙◌, subst, Some, arith, length-append}
+use Rattle.lk_lock.proofs.Names.{Manner, Spins, Verb, halts, Hold, Mark, holds_in, lock_name}
+use Rattle.lk_lock.proofs.Names.{IsSame, IsStill, calls_of, Cpu, Domain, View, IsAsBefore}
+use Rattle.lk_lock.proofs.Names.{IsHolding, IsReady, holds_of, HasLocked}
 use Rattle.lk_names.specs.Names.{same_lock}
-use Rattle.lk_law.proofs.common.Puts.{if-true}
-use Rattle.lk_law.proofs.common.Sames.{same_lock-self}
+use Rattle.lk_rows.specs.declared.parts.Pc.{Pc}
+use Rattle.lk_law.proofs.{common.Puts.if-true, common.Sames.same_lock-self}
 use Rattle.lk_domain.proofs.Holds.{found, held, marked, out_home}
+use Rattle.lk_domain.specs.{Calls.{Terms, Running, hold, Calls, hold_in, way_in}, Plans.cpus_of}
+use Rattle.lk_domain.specs.Seats.{BringsValueOf, IsIn, TakesValueOf, ledger_of, view_of}
+use Rattle.lk_domain.specs.Turns.{HasLeft}
+use Rattle.lk_domain.specs.Values.{IsClear, IsHomeWith, bringing, is_sole, marked_out, older}
+use Rattle.lk_domain.specs.{Values.{out_in, taking}, Who.Who}
+use Rattle.lk_pvdomain.specs.PvCalls.{IsResting}
+use Rattle.lk_run.specs.Entering.{HasEntered}
+use Rattle.lk_lock.specs.Standing.{HasBeenIn, HasComeIn, IsInside, home_calls}
 
 module _ (d : Domain) (old new : Cpu) (was : IsReady d old) where
   -- it is one of the domain

@@ -1,7 +1,6 @@
 use Rattle.std.proofs.Common.{refl}
+use Rattle.lk_lock.proofs.Names.{is_let, first_node, first_of}
 use Rattle.lk_rows.specs.declared.setup.Verb.TheVariants.{Unlock}
-use Rattle.lk_pvdomain.specs.PvPaths.{first_node, first_of}
-use Rattle.lk_pvdomain.proofs.ways.Frees.{is_let}
 use Rattle.lk_lock.proofs.HaltingSteps.{let_seated, may_free, pv_frees, rests}
 use Rattle.lk_lock.proofs.holding.free_halting.Goals as goal
 

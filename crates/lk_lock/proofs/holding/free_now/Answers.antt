@@ -1,6 +1,5 @@
-use Rattle.lk_names.specs.declared.holder.Manner.TheVariants.{Spins}
-use Rattle.lk_lock.proofs.AwakeSteps.{frees, is_of}
-use Rattle.lk_lock.proofs.Steps.{is_held, none_out}
+use Rattle.lk_lock.proofs.Names.{Spins}
+use Rattle.lk_lock.proofs.{AwakeSteps.{frees, is_of}, Steps.{is_held, none_out}}
 use Rattle.lk_lock.proofs.holding.free_now.Goals as goal
 
 pub unlock-requires-clause-domain : goal.unlock-requires-clause-domain

@@ -1,8 +1,7 @@
 use Rattle.std.proofs.Common.{ℕ, refl, subst}
-use Rattle.lk_rows.specs.declared.setup.Verb.TheVariants.{Lock}
-use Rattle.lk_pvdomain.specs.PvPaths.{Took, first_node, first_of}
-use Rattle.lk_pvdomain.proofs.ways.Frees.{is_let}
+use Rattle.lk_lock.proofs.Names.{Lock, is_let, first_node, first_of}
 use Rattle.lk_pvdomain.proofs.ways.Rested.{kept_since, since_first, since_take}
+use Rattle.lk_pvdomain.specs.PvPaths.{Took}
 use Rattle.lk_lock.proofs.HaltingSteps.{let_seated, named, pv_takes, rests, seated}
 use Rattle.lk_lock.proofs.holding.take_halting.Goals as goal
 

@@ -1,9 +1,7 @@
-use Rattle.std.proofs.Common.{◌≡◌, ℕ, suc, ◌+◌, ◌++◌, Option, length, sym, ap, ◌∙◌, arith, length-append}
-use Rattle.std.proofs.lemmas.List.{append-nil, append_assoc}
-use Rattle.std.proofs.lemmas.Nat.{row_fits}
-use Rattle.lk_names.specs.ListOf.{ListOf}
-use Rattle.lk_domain.specs.Values.{Key}
-use Rattle.lk_lock.specs.Cells.{all_behind, firsts, laid}
+use Rattle.std.proofs.Common.{◌≡◌, ℕ, suc, ◌+◌, ◌++◌, Option, length, sym, ap, ◌∙◌, arith}
+use Rattle.std.proofs.Common.{length-append}
+use Rattle.std.proofs.{lemmas.List.{append-nil, append_assoc}, lemmas.Nat.row_fits}
+use Rattle.lk_lock.proofs.Names.{ListOf, Key, all_behind, firsts, laid}
 use Rattle.lk_lock.proofs.Laid.{many_behind, many_firsts}
 use Rattle.lk_lock.proofs.laying.laid_out.Goals as goal
 

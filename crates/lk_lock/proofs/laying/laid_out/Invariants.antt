@@ -1,5 +1,5 @@
 use Rattle.std.proofs.Common.{◌≡◌, ◌+◌, ◌*◌, ◌≤◌, ◌++◌, ℕ, length}
-use Rattle.lk_lock.specs.Cells.{laid}
+use Rattle.lk_lock.proofs.Names.{laid}
 use Rattle.lk_lock.proofs.laying.laid_out.Given as goal
 
 -- the keys that are laid out, and those that are left

@@ -1,9 +1,7 @@
-use Rattle.std.proofs.Common.{◌≡◌, ℕ, ◌+◌, ◌∷◌, ◌++◌, [], List, Option, Some, length, sym, ap, ◌∙◌, arith, length-append}
-use Rattle.std.specs.Prelude.{slice_get, slice_set}
+use Rattle.std.proofs.Common.{◌≡◌, ℕ, ◌+◌, ◌∷◌, ◌++◌, [], List, Option, Some, length, sym, ap, ◌∙◌}
+use Rattle.std.proofs.Common.{arith, length-append, slice_get, slice_set}
 use Rattle.std.proofs.lemmas.List.{append_assoc}
-use Rattle.lk_names.specs.ListOf.{ListOf}
-use Rattle.lk_domain.specs.Values.{Key}
-use Rattle.lk_lock.specs.Cells.{all_behind, firsts}
+use Rattle.lk_lock.proofs.Names.{ListOf, Key, all_behind, firsts}
 use Rattle.lk_lock.proofs.Laid.{firsts_more, long, many_firsts, next_left, set_at}
 use Rattle.lk_lock.proofs.laying.take_firsts.Goals as goal
 

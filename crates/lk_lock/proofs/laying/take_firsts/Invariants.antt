@@ -1,7 +1,5 @@
 use Rattle.std.proofs.Common.{◌≡◌, ◌++◌, List, length}
-use Rattle.lk_names.specs.ListOf.{ListOf}
-use Rattle.lk_domain.specs.Values.{Key}
-use Rattle.lk_lock.specs.Cells.{all_behind, firsts}
+use Rattle.lk_lock.proofs.Names.{ListOf, Key, all_behind, firsts}
 use Rattle.lk_lock.proofs.laying.take_firsts.Given as goal
 
 -- the locks whose first key was taken, and those that are left

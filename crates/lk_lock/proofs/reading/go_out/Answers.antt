@@ -1,7 +1,5 @@
-use Rattle.lk_names.specs.declared.holder.Manner.TheVariants.{Reads}
-use Rattle.lk_rows.specs.declared.parts.Pc.TheVariants.{Z1}
-use Rattle.lk_lock.proofs.AwakeSteps.{awake_rw, is_of, leaves}
-use Rattle.lk_lock.proofs.Steps.{none_out, way_held}
+use Rattle.lk_lock.proofs.Names.{Reads, Z1}
+use Rattle.lk_lock.proofs.{AwakeSteps.{awake_rw, is_of, leaves}, Steps.{none_out, way_held}}
 use Rattle.lk_lock.proofs.reading.go_out.Goals as goal
 
 pub read_unlock-requires-clause-domain : goal.read_unlock-requires-clause-domain

@@ -1,6 +1,6 @@
-use Rattle.std.proofs.Common.{ℕ, ◌+◌, ◌∷◌, ◌++◌, [], List, length, sym, ap, ◌∙◌, subst, length-append}
-use Rattle.atomic_table.specs.Seated.{TableId}
-use Rattle.lk_lock.specs.Cells.{AreKeysOf, names_of}
+use Rattle.std.proofs.Common.{ℕ, ◌+◌, ◌∷◌, ◌++◌, [], List, length, sym, ap, ◌∙◌, subst}
+use Rattle.std.proofs.Common.{length-append}
+use Rattle.lk_lock.proofs.Names.{TableId, AreKeysOf, names_of}
 use Rattle.lk_lock.proofs.Laid.{one_more, one_named}
 use Rattle.lk_lock.proofs.shared.cells_with.Goals as goal
 

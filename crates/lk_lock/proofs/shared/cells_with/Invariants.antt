@@ -1,5 +1,5 @@
 use Rattle.std.proofs.Common.{◌≡◌, length}
-use Rattle.lk_lock.specs.Cells.{AreKeysOf, names_of}
+use Rattle.lk_lock.proofs.Names.{AreKeysOf, names_of}
 use Rattle.lk_lock.proofs.shared.cells_with.Given as goal
 
 abbrev pub invariant-loop : goal.invariant-loop

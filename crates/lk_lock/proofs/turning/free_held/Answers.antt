@@ -1,6 +1,5 @@
 use Rattle.std.proofs.Common.{subst}
-use Rattle.lk_names.specs.declared.holder.Manner.{Manner}
-use Rattle.lk_lock.specs.Standing.{IsHolding}
+use Rattle.lk_lock.proofs.Names.{Manner, IsHolding}
 use Rattle.lk_lock.proofs.turning.free_held.Goals as goal
 
 pub free_now-requires-clause-holding : goal.free_now-requires-clause-holding

@@ -1,14 +1,9 @@
 use Rattle.std.proofs.Common.{◌≡◌, ℕ, None, false, refl, subst, sym}
-use Rattle.lk_names.specs.declared.holder.Manner.{Manner}
-use Rattle.lk_names.specs.declared.holder.Manner.TheVariants.{Reads, Spins, Writes}
-use Rattle.lk_rows.specs.declared.setup.Verb.TheVariants.{Read, Write}
-use Rattle.lk_domain.specs.declared.cpu.Cpu.{Cpu}
-use Rattle.lk_domain.specs.declared.domain.Domain.{Domain}
-use Rattle.lk_run.specs.Phases.{starting}
+use Rattle.lk_lock.proofs.Names.{Manner, Reads, Spins, Writes, Read, Write, Cpu, Domain, starting}
 use Rattle.lk_run.proofs.Steps.{still_of}
-use Rattle.lk_lock.specs.Standing.{ComesIn, WaitsSince}
 use Rattle.lk_lock.proofs.AwakeSteps.{is_of}
 use Rattle.lk_lock.proofs.LateSteps.{enters_late, reads_on, spins_late, spins_on, writes_on}
+use Rattle.lk_lock.specs.Standing.{ComesIn, WaitsSince}
 use Rattle.lk_lock.proofs.turning.take_late.Goals as goal
 
 in_manner : (d : Domain) (m n : Manner) (l met : ℕ) (old now : Cpu) → m ≡ n → WaitsSince d m l met old now → WaitsSince d n l met old now

@@ -1,8 +1,6 @@
 use Rattle.std.proofs.Common.{ℕ, sym, subst, ◌∙◌}
-use Rattle.lk_domain.specs.Turns.{home_in}
-use Rattle.lk_domain.specs.Values.{IsKeyOf}
-use Rattle.lk_lock.proofs.LateSteps.{comes_holding, turned_late}
-use Rattle.lk_lock.proofs.Steps.{still_holding}
+use Rattle.lk_domain.specs.{Turns.home_in, Values.IsKeyOf}
+use Rattle.lk_lock.proofs.{LateSteps.{comes_holding, turned_late}, Steps.still_holding}
 use Rattle.lk_lock.proofs.turning.work_late.Goals as goal
 
 pub work_held-done-requires-clause-work : goal.work_held-done-requires-clause-work

@@ -1,4 +1,4 @@
-use Rattle.lk_domain.specs.Seats.{IsStill}
+use Rattle.lk_lock.proofs.Names.{IsStill}
 use Rattle.lk_lock.proofs.working.set_copies.Given as goal
 
 -- between two copies the processor stands as it did

@@ -1,4 +1,4 @@
-use Rattle.lk_lock.specs.Cells.{names_of}
+use Rattle.lk_lock.proofs.Names.{names_of}
 use Rattle.lk_lock.proofs.Laid.{name_at, own_under}
 use Rattle.lk_lock.proofs.working.work_on_own.Goals as goal
 

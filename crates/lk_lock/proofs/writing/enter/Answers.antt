@@ -1,5 +1,4 @@
-use Rattle.lk_names.specs.declared.holder.Manner.TheVariants.{Writes}
-use Rattle.lk_rows.specs.declared.setup.Verb.TheVariants.{Write}
+use Rattle.lk_lock.proofs.Names.{Writes, Write}
 use Rattle.lk_lock.proofs.AwakeSteps.{awake_rw, enters, is_of}
 use Rattle.lk_lock.proofs.writing.enter.Goals as goal
 

@@ -1,7 +1,5 @@
-use Rattle.lk_names.specs.declared.holder.Manner.TheVariants.{Writes}
-use Rattle.lk_rows.specs.declared.parts.Pc.TheVariants.{Z2}
-use Rattle.lk_lock.proofs.AwakeSteps.{awake_rw, is_of, leaves}
-use Rattle.lk_lock.proofs.Steps.{none_out, way_held}
+use Rattle.lk_lock.proofs.Names.{Writes, Z2}
+use Rattle.lk_lock.proofs.{AwakeSteps.{awake_rw, is_of, leaves}, Steps.{none_out, way_held}}
 use Rattle.lk_lock.proofs.writing.leave.Goals as goal
 
 pub write_unlock-requires-clause-domain : goal.write_unlock-requires-clause-domain

@@ -1,8 +1,5 @@
 use Rattle.std.proofs.Common.{refl}
-use Rattle.lk_names.specs.declared.holder.Manner.TheVariants.{Spins}
-use Rattle.lk_rows.specs.declared.setup.Verb.TheVariants.{Lock}
-use Rattle.lk_domain.specs.Seats.{calls_of}
-use Rattle.lk_domain.specs.Calls.{terms_of}
+use Rattle.lk_lock.proofs.Names.{Spins, Lock, terms_of, calls_of}
 use Rattle.lk_lock.proofs.Steps.{at_home, gone_in, gone_out, home_again, inside}
 use Rattle.lk_lock.proofs.held.Held.lock.Goals as goal
 

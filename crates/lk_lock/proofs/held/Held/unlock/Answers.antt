@@ -1,4 +1,4 @@
-use Rattle.lk_names.specs.declared.holder.Manner.TheVariants.{Spins}
+use Rattle.lk_lock.proofs.Names.{Spins}
 use Rattle.lk_lock.proofs.Steps.{came_home}
 use Rattle.lk_lock.proofs.held.Held.unlock.Goals as goal
 

@@ -1,10 +1,8 @@
 use Rattle.std.proofs.Common.{◌≡◌, rules, ℕ, List, Option, Some, length, sym, ap, ◌∙◌, subst}
-use Rattle.lk_names.specs.ListOf.{ListOf}
-use Rattle.lk_domain.specs.Values.{AreShut, Key, keys_of}
-use Rattle.lk_domain.specs.Views.{no_plan}
+use Rattle.lk_lock.proofs.Names.{ListOf, Key, keys_of}
 use Rattle.lk_domain.proofs.seats.Dealt.{keys_laid}
-use Rattle.lk_lock.proofs.Laid.{laid_shut}
-use Rattle.lk_lock.proofs.Mades.{made, same_kinds, shared_made}
+use Rattle.lk_domain.specs.{Values.AreShut, Views.no_plan}
+use Rattle.lk_lock.proofs.{Laid.laid_shut, Mades.{made, same_kinds, shared_made}}
 use Rattle.lk_lock.proofs.locks.Locks.open_on.Goals as goal
 
 -- what lies in the homes is said of a plan's cells alone

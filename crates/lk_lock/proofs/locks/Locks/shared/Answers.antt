@@ -1,8 +1,6 @@
 use Rattle.std.proofs.Common.{ℕ, ◌+◌, refl, sym, ap, ◌∙◌}
-use Rattle.lk_names.specs.declared.names.Kind.TheVariants.{Rw}
-use Rattle.lk_lock.specs.Cells.{names_of}
-use Rattle.lk_lock.proofs.Laid.{are_shut, many_names}
-use Rattle.lk_lock.proofs.Mades.{among, keeps, keeps_shared}
+use Rattle.lk_lock.proofs.Names.{Rw, names_of}
+use Rattle.lk_lock.proofs.{Laid.{are_shut, many_names}, Mades.{among, keeps, keeps_shared}}
 use Rattle.lk_lock.proofs.locks.Locks.shared.Goals as goal
 
 pub add-id-requires-clause-shut : goal.add-id-requires-clause-shut

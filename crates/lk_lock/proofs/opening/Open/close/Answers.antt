@@ -1,8 +1,7 @@
 use Rattle.std.proofs.Common.{Option, sym, subst}
-use Rattle.lk_names.specs.ListOf.{ListOf}
-use Rattle.lk_domain.specs.Values.{AreLaid, Key}
-use Rattle.lk_lock.proofs.Closings.{all_keys}
-use Rattle.lk_lock.proofs.Resting.{all_end}
+use Rattle.lk_lock.proofs.Names.{ListOf, Key}
+use Rattle.lk_domain.specs.Values.{AreLaid}
+use Rattle.lk_lock.proofs.{Closings.all_keys, Resting.all_end}
 use Rattle.lk_lock.proofs.opening.Open.close.Goals as goal
 
 pub close-requires-clause-rest : goal.close-requires-clause-rest

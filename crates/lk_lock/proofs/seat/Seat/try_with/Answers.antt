@@ -1,5 +1,5 @@
 use Rattle.std.proofs.Common.{refl}
-use Rattle.lk_names.specs.declared.holder.Manner.TheVariants.{Spins}
+use Rattle.lk_lock.proofs.Names.{Spins}
 use Rattle.lk_lock.proofs.Steps.{at_home, still_holding}
 use Rattle.lk_lock.proofs.seat.Seat.try_with.Goals as goal
 

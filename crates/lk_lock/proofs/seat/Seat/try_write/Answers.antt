@@ -1,5 +1,5 @@
 use Rattle.std.proofs.Common.{refl}
-use Rattle.lk_names.specs.declared.holder.Manner.TheVariants.{Writes}
+use Rattle.lk_lock.proofs.Names.{Writes}
 use Rattle.lk_lock.proofs.Steps.{at_home, still_holding}
 use Rattle.lk_lock.proofs.seat.Seat.try_write.Goals as goal
 

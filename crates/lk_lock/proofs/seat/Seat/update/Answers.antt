@@ -1,9 +1,5 @@
 use Rattle.std.proofs.Common.{refl}
-use Rattle.lk_names.specs.declared.holder.Manner.TheVariants.{Writes}
-use Rattle.lk_domain.specs.Seats.{calls_of}
-use Rattle.lk_domain.specs.Calls.{terms_of}
-use Rattle.lk_rows.specs.declared.parts.Pc.TheVariants.{Z2}
-use Rattle.lk_rows.specs.declared.setup.Verb.TheVariants.{Write}
+use Rattle.lk_lock.proofs.Names.{Writes, Z2, Write, terms_of, calls_of}
 use Rattle.lk_lock.proofs.Steps.{at_home, been_in, still_holding, still_once_more}
 use Rattle.lk_lock.proofs.seat.Seat.update.Goals as goal
 

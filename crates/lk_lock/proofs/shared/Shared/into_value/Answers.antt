@@ -1,8 +1,5 @@
-use Rattle.std.proofs.Common.{◌≡◌, Some, sym, ap, ◌∙◌, subst}
-use Rattle.std.specs.Prelude.{slice_get}
-use Rattle.atomic_table.specs.Seated.{TableId}
-use Rattle.lk_cell.specs.Latched.{IsKey}
-use Rattle.lk_lock.specs.Cells.{names_of}
+use Rattle.std.proofs.Common.{◌≡◌, Some, sym, ap, ◌∙◌, subst, slice_get}
+use Rattle.lk_lock.proofs.Names.{TableId, IsKey, names_of}
 use Rattle.lk_lock.proofs.shared.Shared.into_value.Goals as goal
 
 pub into_value-requires : goal.into_value-requires
