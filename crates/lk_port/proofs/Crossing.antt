@@ -1,7 +1,9 @@
 -- A port may go to another thread, of whatever family. Its domain's plan has a `Snapshot`, so that this is not found without
 -- hints.
-use denote.Param.Send.{IsSend, sendable}
 use Rattle.std.proofs.Crossing.{crosses}
+use denote.Param.Send.{IsSend, sendable}
+use Rattle.lk_domain.proofs.Crossing.{domain_sync}
+use Rattle.lk_pvdomain.proofs.PvSeating.{pv_domain_sync}
 use Rattle.std.proofs.option.Option.TheSendSync as option
 use Rattle.std.proofs.alloc.Global.TheSendSync as global
 use Rattle.atomic_table.proofs.owned.Table.TheSendSync as table
@@ -12,7 +14,6 @@ use Rattle.lk_names.proofs.names.Mode.TheSendSync as mode
 use Rattle.lk_names.proofs.names.Kind.TheSendSync as kind
 use Rattle.lk_domain.proofs.rule.Order.TheSendSync as order
 use Rattle.lk_domain.proofs.slot.Stowed.TheSendSync as stowed
-use Rattle.lk_domain.proofs.Crossing.{domain_sync}
 use Rattle.lk_domain.proofs.cpu.Cpu.TheSendSync as cpu
 use Rattle.lk_run.proofs.waiter.Waiter.TheSendSync as waiter
 use Rattle.lk_run.proofs.read_waiter.ReadWaiter.TheSendSync as reader
@@ -20,7 +21,6 @@ use Rattle.lk_run.proofs.write_waiter.WriteWaiter.TheSendSync as writer
 use Rattle.lk_port.proofs.pending.Pending.TheSendSync as pending
 use Rattle.lk_domain.specs.contracts.domain.Domain as Domain
 use Rattle.lk_domain.specs.contracts.plan.Plan as Plan
-use Rattle.lk_pvdomain.proofs.PvSeating.{pv_domain_sync}
 use Rattle.lk_pvdomain.proofs.waiter.PvWaiter.TheSendSync as pv_waiter
 use Rattle.lk_pvdomain.specs.contracts.domain.PvDomain as PvDomain
 use Rattle.lk_port.specs.contracts.port.Port as Port

@@ -1,49 +1,36 @@
 -- How a processor stands after a call, where waiters halt.
-use Rattle.std.proofs.Common.{◌≡◌, ℕ, ◌<◌, List, [], ◌∷◌, length, replicate, set, Bool, true, false, refl, sym, ap, ◌∙◌, subst, arith}
-use Rattle.std.proofs.lemmas.Bool.{true≢false}
-use Rattle.std.specs.Prelude.{if◌then◌else◌, ◌&&◌, not, slice_index_or}
-use Rattle.std.proofs.lemmas.List.{get_or-replicate, length-replicate, length-set, get_or-set_same, get_or-set_other}
+use Rattle.std.proofs.Common.{◌≡◌, ℕ, ◌<◌, List, [], ◌∷◌, length, replicate, set, Bool, true, false}
+use Rattle.std.proofs.Common.{refl, sym, ap, ◌∙◌, subst, arith, if◌then◌else◌, ◌&&◌, not}
+use Rattle.std.proofs.Common.{slice_index_or}
+use Rattle.std.proofs.lemmas.List.{get_or-replicate, length-replicate, length-set, get_or-set_same}
+use Rattle.std.proofs.lemmas.List.{get_or-set_other}
 use Rattle.std.specs.Arc.{arc_value}
+use Rattle.lk_port.proofs.Names.{true≢false, Spins, Kind, kind_at, locks_of, calls_of, ledger_of}
+use Rattle.lk_port.proofs.Names.{Cpu, Domain, own_node, first_of, domain_of, may_halt, Stands}
+use Rattle.lk_port.proofs.Names.{Pending, Port, Share}
 use Rattle.atomic_table.specs.declared.shared.Seat.{Seat}
-use Rattle.lk_names.specs.Names.{same_lock}
-use Rattle.lk_names.specs.declared.holder.Manner.{Manner}
-use Rattle.lk_names.specs.declared.holder.Manner.TheVariants.{Spins}
-use Rattle.lk_names.specs.declared.names.Kind.{Kind}
-use Rattle.lk_names.specs.declared.names.LockName.{LockName}
 use Rattle.lk_word.specs.declared.spin_word.NodeName.{NodeName}
-use Rattle.lk_rows.specs.declared.setup.Verb.{Verb}
-use Rattle.lk_rows.specs.declared.setup.Verb.TheVariants.{Unlock}
+use Rattle.lk_names.specs.{Names.same_lock, declared.holder.Manner.Manner}
+use Rattle.lk_names.specs.declared.names.LockName.{LockName}
+use Rattle.lk_rows.specs.{declared.setup.Verb.Verb, declared.setup.Verb.TheVariants.Unlock}
 use Rattle.lk_law.proofs.common.Sames.{same_lock-true}
-use Rattle.lk_domain.specs.Calls as grip
-use Rattle.lk_domain.specs.Calls.{Calls, Hold, hold, holds_in, lock_name}
-use Rattle.lk_domain.specs.Keeps.{Slot}
-use Rattle.lk_domain.specs.Ledgers.{Ledger}
-use Rattle.lk_domain.specs.Plans.{kind_at, locks_of}
-use Rattle.lk_domain.specs.Plays.{carried_of}
-use Rattle.lk_domain.specs.Seats.{IsDealt, IsStill, calls_of, ledger_of}
-use Rattle.lk_domain.specs.declared.cpu.Cpu.{Cpu}
-use Rattle.lk_domain.specs.declared.domain.Domain.{Domain}
+use Rattle.lk_domain.specs.{Calls.{Calls, Hold, hold, holds_in, lock_name}, Keeps.Slot}
+use Rattle.lk_domain.specs.{Ledgers.Ledger, Plays.carried_of, Seats.{IsDealt, IsStill}}
 use Rattle.lk_domain.specs.declared.view.View.{View}
-use Rattle.lk_pvdomain.specs.PvCalls.{HasFreed, HasMissed, IsResting, own_node, without}
-use Rattle.lk_pvdomain.specs.PvPaths.{Ended, Start, Took, first_of, starting}
-use Rattle.lk_pvdomain.specs.PvRests.{Rests}
-use Rattle.lk_pvdomain.specs.declared.domain.PvDomain.{PvDomain}
-use Rattle.lk_pvdomain.specs.declared.rest.PvRest.{PvRest}
-use Rattle.lk_pvdomain.specs.declared.rest.PvRest.TheVariants as rest
-use Rattle.lk_pvdomain.specs.declared.waiter.PvWaiter.{PvWaiter}
 use Rattle.lk_pvdomain.proofs.ways.Frees.{out_kept}
-use Rattle.lk_port.specs.Asking.{MayCall}
-use Rattle.lk_port.specs.Ports.{Frees, HasUnlocked, Stays}
-use Rattle.lk_port.specs.Shares.{By, domain_of, may_halt}
-use Rattle.lk_port.specs.Standing.{AreHeld, IsHome, Stands, StandsHalting, are_home}
-use Rattle.lk_port.specs.declared.pending.Pending.{Pending}
-use Rattle.lk_port.specs.declared.pending.Pending.TheVariants.{Free, Spins, Reads, Writes, Halts}
-use Rattle.lk_port.specs.declared.port.Port.{Port}
-use Rattle.lk_port.specs.declared.share.Share.{Share}
-use Rattle.lk_port.specs.declared.share.Share.TheVariants as family
-use Rattle.lk_port.proofs.Ports as running
+use Rattle.lk_pvdomain.specs.PvCalls.{HasFreed, HasMissed, IsResting, without}
+use Rattle.lk_pvdomain.specs.{PvPaths.{Ended, Start, Took, starting}, PvRests.Rests}
+use Rattle.lk_pvdomain.specs.{declared.domain.PvDomain.PvDomain, declared.rest.PvRest.PvRest}
+use Rattle.lk_pvdomain.specs.declared.waiter.PvWaiter.{PvWaiter}
 use Rattle.lk_port.proofs.Ports.{and_left, and_right, apart}
 use Rattle.lk_port.proofs.Shares.{IsHalting, halting, halts_by}
+use Rattle.lk_port.specs.{Asking.MayCall, Ports.{Frees, HasUnlocked, Stays}, Shares.By}
+use Rattle.lk_port.specs.Standing.{AreHeld, IsHome, StandsHalting, are_home}
+use Rattle.lk_port.specs.declared.pending.Pending.TheVariants.{Free, Spins, Reads, Writes, Halts}
+use Rattle.lk_domain.specs.Calls as grip
+use Rattle.lk_pvdomain.specs.declared.rest.PvRest.TheVariants as rest
+use Rattle.lk_port.specs.declared.share.Share.TheVariants as family
+use Rattle.lk_port.proofs.Ports as running
 
 -- a lock was taken, or was freed
 

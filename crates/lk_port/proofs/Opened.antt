@@ -1,13 +1,11 @@
 -- What new ports are of.
 use Rattle.std.proofs.Common.{◌≡◌, ℕ, ◌+◌, List, [], ◌∷◌, ◌++◌, length, arith, sym, ◌∙◌, subst}
-use Rattle.std.specs.Prelude.{Result, Ok, Err, IfOk}
-use Rattle.lk_names.specs.declared.names.Kind.{Kind}
+use Rattle.std.proofs.Common.{Result, Ok, Err, IfOk}
+use Rattle.lk_port.proofs.Names.{Kind, Domain, Port}
 use Rattle.lk_names.specs.declared.names.Mode.{Mode}
-use Rattle.lk_domain.specs.declared.domain.Domain.{Domain}
 use Rattle.lk_domain.proofs.seats.Openings.{each_more}
 use Rattle.lk_port.specs.Asking.{cpu_in, domain_in}
 use Rattle.lk_port.specs.Opened.{AreOpened, ArePortsOf, IsPlanFor, IsPortOf}
-use Rattle.lk_port.specs.declared.port.Port.{Port}
 
 -- The processor that was the last one dealt is the next port.
 pub ports_more : (domain : Domain) (n m : ℕ) (ps qs : List Port) (p : Port) → qs ≡ ps ++ p ∷ [] → ArePortsOf domain n ps

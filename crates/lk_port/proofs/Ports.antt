@@ -1,45 +1,30 @@
 -- How a processor stands after a call, where waiters run.
-use Rattle.std.proofs.Common.{◌≡◌, ◌≢◌, ℕ, ◌+◌, ◌<◌, List, [], ◌∷◌, ◌++◌, length, replicate, set, Bool, true, false, refl, sym, ap, ◌∙◌, subst, eqb, arith}
+use Rattle.std.proofs.Common.{◌≡◌, ◌≢◌, ℕ, ◌+◌, ◌<◌, List, [], ◌∷◌, ◌++◌, length, replicate, set}
+use Rattle.std.proofs.Common.{Bool, true, false, refl, sym, ap, ◌∙◌, subst, eqb, arith}
+use Rattle.std.proofs.Common.{if◌then◌else◌, ◌&&◌, ◌||◌, not, None, Some, Option, slice_index_or}
+use Rattle.std.proofs.lemmas.List.{get_or_push, get_or_append_left, length-append, length-replicate}
+use Rattle.std.proofs.lemmas.List.{length-set, get_or-set_same, get_or-set_other}
 use Rattle.std.specs.Bool.{beq}
-use Rattle.std.specs.Prelude.{if◌then◌else◌, ◌&&◌, ◌||◌, not, None, Some, Option, slice_index_or}
-use Rattle.std.proofs.lemmas.Bool.{true≢false}
-use Rattle.std.proofs.lemmas.List.{get_or_push, get_or_append_left, length-append, length-replicate, length-set, get_or-set_same, get_or-set_other}
-use Rattle.lk_names.specs.Names.{same_lock}
-use Rattle.lk_names.specs.declared.holder.Manner.{Manner}
-use Rattle.lk_names.specs.declared.holder.Manner.TheVariants.{Spins}
-use Rattle.lk_names.specs.declared.names.Kind.{Kind}
-use Rattle.lk_names.specs.declared.names.Kind.TheVariants.{Spin, Rw}
+use Rattle.lk_port.proofs.Names.{true≢false, Spins, Kind, Rw, Spin, Lock, kind_at, locks_of}
+use Rattle.lk_port.proofs.Names.{calls_of, ledger_of, Gains, Cpu, Domain, CameIn, Holds, domain_of}
+use Rattle.lk_port.proofs.Names.{may_halt, Stands, StandsRunning, Pending, Port, Share}
+use Rattle.lk_names.specs.{Names.same_lock, declared.holder.Manner.Manner}
 use Rattle.lk_names.specs.declared.names.LockName.{LockName}
-use Rattle.lk_rows.specs.declared.parts.Pc.{Pc}
-use Rattle.lk_rows.specs.declared.setup.Verb.{Verb}
-use Rattle.lk_rows.specs.declared.setup.Verb.TheVariants.{Lock}
+use Rattle.lk_rows.specs.{declared.parts.Pc.Pc, declared.setup.Verb.Verb}
 use Rattle.lk_law.proofs.common.Sames.{same_lock-self, same_lock-true}
-use Rattle.lk_domain.specs.Calls.{Mark, Running, Hold, Calls, Takes, Frees, hold, hold_in, holds_in, way_in, waits_in, lock_name, free_of, moved_to}
-use Rattle.lk_domain.specs.Ledgers.{Ledger, turned, opened, closed, is_first}
-use Rattle.lk_domain.specs.Paths.{HasLooked}
-use Rattle.lk_domain.specs.Plans.{kind_at, locks_of}
-use Rattle.lk_domain.specs.Seats.{AreDealt, IsDealt, calls_of, ledger_of}
-use Rattle.lk_domain.specs.Values.{out_in}
-use Rattle.lk_domain.specs.Waits.{MayTake, Gains, Misses, Drops}
-use Rattle.lk_domain.specs.declared.cpu.Cpu.{Cpu}
-use Rattle.lk_domain.specs.declared.domain.Domain.{Domain}
-use Rattle.lk_domain.specs.declared.domain.LockId.{LockId}
+use Rattle.lk_domain.proofs.{Outs.{moved_hold, freed_hold}, seats.Exclusive.hold_way}
+use Rattle.lk_domain.specs.Calls.{Mark, Running, Hold, Calls, Takes, Frees, hold, hold_in, holds_in}
+use Rattle.lk_domain.specs.Calls.{way_in, waits_in, lock_name, free_of, moved_to}
+use Rattle.lk_domain.specs.{Ledgers.{Ledger, turned, opened, closed, is_first}, Paths.HasLooked}
+use Rattle.lk_domain.specs.{Seats.{AreDealt, IsDealt}, Values.out_in}
+use Rattle.lk_domain.specs.{Waits.{MayTake, Misses, Drops}, declared.domain.LockId.LockId}
 use Rattle.lk_domain.specs.declared.plan.Plan.{Plan}
-use Rattle.lk_domain.proofs.Outs.{moved_hold, freed_hold}
-use Rattle.lk_domain.proofs.seats.Exclusive.{hold_way}
-use Rattle.lk_run.specs.Entering.{Leaves}
-use Rattle.lk_run.specs.Phases.{Start, Holds, CameIn}
-use Rattle.lk_port.specs.Asking.{Refuses}
-use Rattle.lk_port.specs.Ports.{IsPending, has_halted}
-use Rattle.lk_port.specs.Shares.{domain_of, may_halt}
-use Rattle.lk_port.specs.Standing.{are_home, way_of, AreNoted, IsIdle, IsLast, IsReady, Stands, StandsRunning}
-use Rattle.lk_port.specs.declared.answer.Answer.{Answer}
-use Rattle.lk_port.specs.declared.last.TheConstants.{NONE}
-use Rattle.lk_port.specs.declared.pending.Pending.{Pending}
-use Rattle.lk_port.specs.declared.pending.Pending.TheVariants.{Free}
-use Rattle.lk_port.specs.declared.port.Port.{Port}
-use Rattle.lk_port.specs.declared.share.Share.{Share}
+use Rattle.lk_run.specs.{Entering.Leaves, Phases.Start}
 use Rattle.lk_port.proofs.Shares.{runs_by}
+use Rattle.lk_port.specs.{Asking.Refuses, Ports.{IsPending, has_halted}}
+use Rattle.lk_port.specs.Standing.{are_home, way_of, AreNoted, IsIdle, IsLast, IsReady}
+use Rattle.lk_port.specs.{declared.answer.Answer.Answer, declared.last.TheConstants.NONE}
+use Rattle.lk_port.specs.declared.pending.Pending.TheVariants.{Free}
 
 -- a look that begins or ends leaves the journal where it is
 

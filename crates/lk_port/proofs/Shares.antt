@@ -1,23 +1,13 @@
 -- What is so of a share by its family.
 use Rattle.std.proofs.Common.{◌≡◌, ℕ, ◌<◌, List, Bool, true, false, refl, sym, ap, ◌∙◌, subst}
-use Rattle.std.proofs.lemmas.Bool.{true≢false}
-use Rattle.std.proofs.Math.Bool.{Bool-set}
-use Rattle.std.proofs.Math.Logic.{∥∥₁_elim}
+use Rattle.std.proofs.{Math.Bool.Bool-set, Math.Logic.∥∥₁_elim}
 use Rattle.std.specs.Arc.{arc_value}
-use Rattle.lk_names.specs.declared.names.Kind.TheVariants.{Spin, Rw}
-use Rattle.lk_domain.specs.Plans.{cpus_of, kind_at, locks_of}
-use Rattle.lk_domain.specs.Seats.{IsIn, IsSame}
-use Rattle.lk_domain.specs.Who.{Who}
-use Rattle.lk_domain.specs.declared.cpu.Cpu.{Cpu}
-use Rattle.lk_domain.specs.declared.domain.Domain.{Domain}
-use Rattle.lk_pvdomain.specs.declared.domain.PvDomain.{PvDomain}
-use Rattle.lk_pvdomain.specs.declared.waiter.PvWaiter.{PvWaiter}
-use Rattle.lk_port.specs.Shares.{By, IsOf, domain_of, may_halt}
-use Rattle.lk_port.specs.Standing.{Stands}
-use Rattle.lk_port.specs.declared.pending.Pending.{Pending}
+use Rattle.lk_port.proofs.Names.{true≢false, Rw, Spin, kind_at, locks_of, Cpu, Domain, domain_of}
+use Rattle.lk_port.proofs.Names.{may_halt, Stands, Pending, Share}
+use Rattle.lk_domain.specs.{Plans.cpus_of, Seats.{IsIn, IsSame}, Who.Who}
+use Rattle.lk_pvdomain.specs.{declared.domain.PvDomain.PvDomain, declared.waiter.PvWaiter.PvWaiter}
+use Rattle.lk_port.specs.{Shares.{By, IsOf}, declared.share.Share.TheVariants.{Runs, Halts}}
 use Rattle.lk_port.specs.declared.pending.Pending.TheVariants as pending
-use Rattle.lk_port.specs.declared.share.Share.{Share}
-use Rattle.lk_port.specs.declared.share.Share.TheVariants.{Runs, Halts}
 
 -- it is the share of this domain, whose waiters halt
 abbrev pub IsHalting : Share → PvDomain → Type 0

@@ -1,8 +1,8 @@
 use Rattle.std.proofs.Common.{length, subst}
+use Rattle.lk_port.proofs.Names.{domain_of}
 use Rattle.lk_names.specs.declared.names.Mode.{Mode}
-use Rattle.lk_port.specs.Opened.{IsPlanFor, mode_of}
-use Rattle.lk_port.specs.Shares.{domain_of}
 use Rattle.lk_port.proofs.Opened.{opens}
+use Rattle.lk_port.specs.Opened.{IsPlanFor, mode_of}
 use Rattle.lk_port.proofs.opening.open.Goals as goal
 
 pub returns : goal.returns

@@ -1,5 +1,5 @@
 use Rattle.std.proofs.Common.{◌∷◌, [], length, length-append, ap, ◌∙◌, arith}
-use Rattle.lk_port.specs.Shares.{domain_of}
+use Rattle.lk_port.proofs.Names.{domain_of}
 use Rattle.lk_port.proofs.Opened as opened
 use Rattle.lk_port.proofs.Ports as port
 use Rattle.lk_port.proofs.opening.ports_of.Goals as goal

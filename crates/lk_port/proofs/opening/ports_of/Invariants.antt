@@ -1,7 +1,7 @@
 use Rattle.std.proofs.Common.{◌≡◌, ◌+◌, length}
+use Rattle.lk_port.proofs.Names.{domain_of}
 use Rattle.lk_domain.specs.Seats.{AreDealt}
 use Rattle.lk_port.specs.Opened.{ArePortsOf}
-use Rattle.lk_port.specs.Shares.{domain_of}
 use Rattle.lk_port.proofs.opening.ports_of.Given as goal
 
 abbrev pub invariant-loop-alloc : goal.invariant-loop-alloc

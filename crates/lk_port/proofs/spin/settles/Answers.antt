@@ -1,8 +1,5 @@
 use Rattle.std.proofs.Common.{None, refl, sym, subst}
-use Rattle.lk_names.specs.declared.holder.Manner.TheVariants.{Spins}
-use Rattle.lk_rows.specs.declared.setup.Verb.TheVariants.{Lock}
-use Rattle.lk_domain.specs.declared.domain.Domain.{Domain}
-use Rattle.lk_run.specs.Phases.{Holds}
+use Rattle.lk_port.proofs.Names.{Spins, Lock, Domain, Holds}
 use Rattle.lk_run.specs.Polled.{Arrived, Waits}
 use Rattle.lk_port.proofs.spin.settles.Goals as goal
 

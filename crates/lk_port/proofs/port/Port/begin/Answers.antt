@@ -1,7 +1,7 @@
-use Rattle.lk_names.specs.declared.names.Kind.TheVariants.{Spin}
-use Rattle.lk_port.specs.declared.answer.Answer.TheVariants.{Done, Halts, Waits}
-use Rattle.lk_port.proofs.Ports as port
+use Rattle.lk_port.proofs.Names.{Spin, Done}
 use Rattle.lk_port.proofs.Shares.{runs_by}
+use Rattle.lk_port.specs.declared.answer.Answer.TheVariants.{Halts, Waits}
+use Rattle.lk_port.proofs.Ports as port
 use Rattle.lk_port.proofs.port.Port.begin.Goals as goal
 
 pub returns-in-Refused-clause-taken : goal.returns-in-Refused-clause-taken

@@ -1,13 +1,10 @@
 use Rattle.std.proofs.Common.{true, false, None, subst}
-use Rattle.lk_names.specs.declared.holder.Manner.TheVariants as manner
-use Rattle.lk_rows.specs.declared.setup.Verb.TheVariants.{Lock}
-use Rattle.lk_domain.specs.declared.domain.Domain.{Domain}
-use Rattle.lk_run.specs.Phases.{Holds, starting}
-use Rattle.lk_run.specs.Polled.{Arrived}
+use Rattle.lk_port.proofs.Names.{Lock, Domain, Holds, starting, domain_of}
 use Rattle.lk_run.proofs.Steps.{still_of, rest_both}
-use Rattle.lk_port.specs.Shares.{domain_of}
-use Rattle.lk_port.proofs.Ports as port
+use Rattle.lk_run.specs.Polled.{Arrived}
 use Rattle.lk_port.proofs.Shares.{runs_by, still_in}
+use Rattle.lk_names.specs.declared.holder.Manner.TheVariants as manner
+use Rattle.lk_port.proofs.Ports as port
 use Rattle.lk_port.proofs.port.Port.begins.Goals as goal
 
 pub invariant_of-self : goal.invariant_of-self

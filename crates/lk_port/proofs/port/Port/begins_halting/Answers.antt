@@ -1,11 +1,8 @@
 use Rattle.std.proofs.Common.{set, true, ap, arith}
-use Rattle.lk_rows.specs.declared.setup.Verb.TheVariants.{Lock}
-use Rattle.lk_pvdomain.specs.PvCalls.{own_node}
-use Rattle.lk_pvdomain.specs.PvPaths.{first_of}
+use Rattle.lk_port.proofs.Names.{Lock, own_node, first_of}
 use Rattle.lk_pvdomain.specs.PvTurns.{waiter_in}
+use Rattle.lk_port.proofs.{Ports.none, Shares.{halts_by, is_of, low_in, still_in}}
 use Rattle.lk_port.proofs.HaltingPorts as port
-use Rattle.lk_port.proofs.Ports.{none}
-use Rattle.lk_port.proofs.Shares.{halts_by, is_of, low_in, still_in}
 use Rattle.lk_port.proofs.port.Port.begins_halting.Goals as goal
 
 pub pv_begin-requires : goal.pv_begin-requires

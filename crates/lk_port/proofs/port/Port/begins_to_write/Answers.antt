@@ -1,12 +1,10 @@
 use Rattle.std.proofs.Common.{None, false, true, set, subst, arith}
-use Rattle.lk_names.specs.declared.holder.Manner.TheVariants as manner
+use Rattle.lk_port.proofs.Names.{Domain, CameIn, starting, domain_of}
 use Rattle.lk_rows.specs.declared.setup.Verb.TheVariants.{Write}
-use Rattle.lk_domain.specs.declared.domain.Domain.{Domain}
-use Rattle.lk_run.specs.Phases.{CameIn, starting}
 use Rattle.lk_run.specs.PolledWrite.{Waits}
-use Rattle.lk_port.specs.Shares.{domain_of}
-use Rattle.lk_port.proofs.Ports as port
 use Rattle.lk_port.proofs.Shares.{runs_by, runs_rw, still_in}
+use Rattle.lk_names.specs.declared.holder.Manner.TheVariants as manner
+use Rattle.lk_port.proofs.Ports as port
 use Rattle.lk_port.proofs.port.Port.begins_to_write.Goals as goal
 
 pub runs-requires : goal.runs-requires

@@ -1,15 +1,11 @@
 use Rattle.std.proofs.Common.{ap, None, false, subst, sym, arith}
-use Rattle.lk_names.specs.declared.holder.Manner.TheVariants as manner
+use Rattle.lk_port.proofs.Names.{Domain, CameIn, domain_of, StandsRunning, Pending}
 use Rattle.lk_rows.specs.declared.setup.Verb.TheVariants.{Read}
-use Rattle.lk_domain.specs.declared.domain.Domain.{Domain}
-use Rattle.lk_run.specs.Phases.{CameIn}
 use Rattle.lk_run.specs.PolledRead.{Waits}
-use Rattle.lk_port.specs.Standing.{StandsRunning}
-use Rattle.lk_port.specs.declared.pending.Pending.{Pending}
-use Rattle.lk_port.specs.declared.pending.Pending.TheVariants.{Reads}
-use Rattle.lk_port.specs.Shares.{domain_of}
-use Rattle.lk_port.proofs.Ports as port
 use Rattle.lk_port.proofs.Shares.{is_running, runs_by, runs_pending, still_in}
+use Rattle.lk_port.specs.declared.pending.Pending.TheVariants.{Reads}
+use Rattle.lk_names.specs.declared.holder.Manner.TheVariants as manner
+use Rattle.lk_port.proofs.Ports as port
 use Rattle.lk_port.proofs.port.Port.comes_to_read.Goals as goal
 
 pub runs-requires : goal.runs-requires

@@ -1,8 +1,7 @@
+use Rattle.lk_port.proofs.Names.{calls_of, domain_of}
 use Rattle.lk_rows.specs.declared.parts.Pc.TheVariants.{Z1}
-use Rattle.lk_domain.specs.Seats.{calls_of}
-use Rattle.lk_port.specs.Shares.{domain_of}
-use Rattle.lk_port.proofs.Ports as port
 use Rattle.lk_port.proofs.Shares.{runs_rw, still_in}
+use Rattle.lk_port.proofs.Ports as port
 use Rattle.lk_port.proofs.port.Port.ends_reading.Goals as goal
 
 pub runs-requires : goal.runs-requires

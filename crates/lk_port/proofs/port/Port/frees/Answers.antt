@@ -1,7 +1,6 @@
-use Rattle.lk_domain.specs.Seats.{calls_of}
-use Rattle.lk_port.specs.Shares.{domain_of}
-use Rattle.lk_port.proofs.Ports as port
+use Rattle.lk_port.proofs.Names.{calls_of, domain_of}
 use Rattle.lk_port.proofs.Shares.{still_in}
+use Rattle.lk_port.proofs.Ports as port
 use Rattle.lk_port.proofs.port.Port.frees.Goals as goal
 
 pub unlock-requires-clause-value : goal.unlock-requires-clause-value

@@ -1,6 +1,5 @@
 use Rattle.std.proofs.Common.{true, refl, sym, ap, ◌∙◌}
-use Rattle.lk_names.specs.declared.names.Kind.TheVariants.{Spin}
-use Rattle.lk_port.specs.Shares.{may_halt}
+use Rattle.lk_port.proofs.Names.{Spin, may_halt}
 use Rattle.lk_port.proofs.HaltingPorts as port
 use Rattle.lk_port.proofs.port.Port.frees_halting.Goals as goal
 

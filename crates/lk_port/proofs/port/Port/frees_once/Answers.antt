@@ -1,8 +1,7 @@
 use Rattle.std.proofs.Common.{false, set, sym, ◌∙◌, arith}
-use Rattle.lk_domain.specs.Seats.{calls_of}
-use Rattle.lk_port.proofs.Ports.{none_out}
+use Rattle.lk_port.proofs.Names.{calls_of}
+use Rattle.lk_port.proofs.{Ports.none_out, Shares.{is_of, low_in, still_in}}
 use Rattle.lk_port.proofs.HaltingPorts as port
-use Rattle.lk_port.proofs.Shares.{is_of, low_in, still_in}
 use Rattle.lk_port.proofs.port.Port.frees_once.Goals as goal
 
 pub pv_try_unlock-release-requires : goal.pv_try_unlock-release-requires

@@ -1,9 +1,8 @@
 use Rattle.std.proofs.Common.{true, false, arith, ◌∙◌}
 use Rattle.std.proofs.lemmas.Option.{get_or_from_slice_get}
-use Rattle.lk_domain.specs.Seats.{calls_of, ledger_of}
-use Rattle.lk_port.specs.Shares.{domain_of}
-use Rattle.lk_port.proofs.Ports as port
+use Rattle.lk_port.proofs.Names.{calls_of, ledger_of, domain_of}
 use Rattle.lk_port.proofs.Shares.{runs_rw}
+use Rattle.lk_port.proofs.Ports as port
 use Rattle.lk_port.proofs.port.Port.is_writing.Goals as goal
 
 pub runs-requires : goal.runs-requires

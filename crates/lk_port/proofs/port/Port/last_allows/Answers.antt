@@ -1,8 +1,7 @@
 use Rattle.std.proofs.Common.{◌≢◌, ℕ, ◌<◌, sym, ap, ◌∙◌, subst}
-use Rattle.lk_domain.specs.Plans.{kind_at, locks_of}
-use Rattle.lk_port.specs.Shares.{domain_of}
-use Rattle.lk_port.specs.declared.last.TheConstants.{NONE}
+use Rattle.lk_port.proofs.Names.{kind_at, locks_of, domain_of}
 use Rattle.lk_port.proofs.Ports.{same_bool}
+use Rattle.lk_port.specs.declared.last.TheConstants.{NONE}
 use Rattle.lk_port.proofs.port.Port.last_allows.Goals as goal
 
 pub returns-clause-may : goal.returns-clause-may

@@ -1,5 +1,5 @@
+use Rattle.lk_port.proofs.Names.{domain_of}
 use Rattle.lk_domain.proofs.Seating.{of_in}
-use Rattle.lk_port.specs.Shares.{domain_of}
 use Rattle.lk_port.proofs.Shares.{running}
 use Rattle.lk_port.proofs.port.Port.runs.Goals as goal
 

@@ -1,34 +1,35 @@
 -- `stands` takes a fact out of its truncation: what a contract states is a truncated fact too, so its proof may be opened by this proof.
+use Rattle.std.proofs.Common.{refl, Bor}
 use Rattle.std.proofs.Math.Logic.{∥∥₁_elim}
-use seplogic.Bi.Basic.{Entails-prop}
-use mathlib.Core.Path.{refl}
-use mathlib.Core.List.{List, [], ◌∷◌}
-use seplogic.Ra.Ura.{Ura}
-use mir.Val.{Val, vptr, vunit}
-use base.Logic.{SProp, ent, emp}
 use base.Fml.{Lft, Share, flft, ftrue}
-use prog.Memory.{Memory}
-use prog.Routine.{Routine}
-use prog.Wp.{WpFn, Tables}
-use types.Logic.{Logic}
+use base.Logic.{SProp, ent, emp}
 use contract.Monad.{Fun}
 use contract.Running.{tables, tables_of}
-use sound.WpLaws.{WpFn-mono}
-use types.Kit.{‵, raw, ◌⊛◌, ◌$◌, ◌∵◌, !, qed, move, keep, join, split, fjoin, feq_i, suffices, done}
-use types.Run.{of_opd, unit_lit, returns, enter}
-use types.ByLocal.{alloc_all, pass_all, free_all, look_at, sets}
+use denote.Builtin.{RefOf}
 use denote.Exit.{yes}
 use denote.RattleType.{owns}
-use denote.Ref.{Bor, shr_vals}
-use denote.Builtin.{RefOf}
+use denote.Ref.{shr_vals}
 use denote.Signature.{Slot, plain, types_at}
 use denote.Steps.{nothing}
 use denote.Triple.Spec.{Meets, triple_of}
 use denote.Triple.Table.{entered}
-use denote.Triple.Walked.{says, Stays, stay_dropped, walk_of, ends_at, walked, Goes-dropped, walk_Meets}
+use denote.Triple.Walked.{says, Stays, stay_dropped, walk_of, ends_at, walked, Goes-dropped}
+use denote.Triple.Walked.{walk_Meets}
+use mathlib.Core.List.{List, [], ◌∷◌}
+use mir.Val.{Val, vptr, vunit}
+use prog.Memory.{Memory}
+use prog.Routine.{Routine}
+use prog.Wp.{WpFn, Tables}
+use seplogic.Bi.Basic.{Entails-prop}
+use seplogic.Ra.Ura.{Ura}
+use sound.WpLaws.{WpFn-mono}
+use types.ByLocal.{alloc_all, pass_all, free_all, look_at, sets}
+use types.Kit.{‵, raw, ◌⊛◌, ◌$◌, ◌∵◌, !, qed, move, keep, join, split, fjoin, feq_i, suffices, done}
+use types.Logic.{Logic}
+use types.Run.{of_opd, unit_lit, returns, enter}
+use Rattle.lk_port.specs.contracts.port.Port.stands.Key.{name as #self}
 use Rattle.lk_port.specs.contracts.port.Port as P
 use Rattle.lk_port.specs.contracts.port.Port.stands as F
-use Rattle.lk_port.specs.contracts.port.Port.stands.Key.{name as #self}
 use Rattle.lk_port.proofs.port.Port.stands.Statement as stated
 use Rattle.lk_port.proofs.port.Port.stands.Code as code
 

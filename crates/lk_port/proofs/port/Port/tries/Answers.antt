@@ -1,12 +1,8 @@
 use Rattle.std.proofs.Common.{subst}
-use Rattle.lk_names.specs.declared.holder.Manner.TheVariants.{Spins}
+use Rattle.lk_port.proofs.Names.{Spins, calls_of, Gains, Domain, domain_of}
 use Rattle.lk_rows.specs.declared.setup.Verb.TheVariants.{Try}
-use Rattle.lk_domain.specs.Seats.{calls_of}
-use Rattle.lk_domain.specs.Waits.{Gains}
-use Rattle.lk_domain.specs.declared.domain.Domain.{Domain}
-use Rattle.lk_port.specs.Shares.{domain_of}
-use Rattle.lk_port.proofs.Ports as port
 use Rattle.lk_port.proofs.Shares.{still_in}
+use Rattle.lk_port.proofs.Ports as port
 use Rattle.lk_port.proofs.port.Port.tries.Goals as goal
 
 pub invariant_of-self : goal.invariant_of-self

@@ -1,9 +1,8 @@
 use Rattle.std.proofs.Common.{set, true, arith}
+use Rattle.lk_port.proofs.Names.{own_node, first_of}
 use Rattle.lk_rows.specs.declared.setup.Verb.TheVariants.{Try}
-use Rattle.lk_pvdomain.specs.PvCalls.{own_node}
-use Rattle.lk_pvdomain.specs.PvPaths.{first_of}
-use Rattle.lk_port.proofs.HaltingPorts as port
 use Rattle.lk_port.proofs.Shares.{is_of, low_in, still_in}
+use Rattle.lk_port.proofs.HaltingPorts as port
 use Rattle.lk_port.proofs.port.Port.tries_halting.Goals as goal
 
 pub pv_try_lock-has-requires : goal.pv_try_lock-has-requires

@@ -1,12 +1,9 @@
 use Rattle.std.proofs.Common.{set, false, subst, arith}
-use Rattle.lk_names.specs.declared.holder.Manner.TheVariants as manner
+use Rattle.lk_port.proofs.Names.{calls_of, Gains, Domain, domain_of}
 use Rattle.lk_rows.specs.declared.setup.Verb.TheVariants.{TryRead}
-use Rattle.lk_domain.specs.Seats.{calls_of}
-use Rattle.lk_domain.specs.Waits.{Gains}
-use Rattle.lk_domain.specs.declared.domain.Domain.{Domain}
-use Rattle.lk_port.specs.Shares.{domain_of}
-use Rattle.lk_port.proofs.Ports as port
 use Rattle.lk_port.proofs.Shares.{runs_rw, still_in}
+use Rattle.lk_names.specs.declared.holder.Manner.TheVariants as manner
+use Rattle.lk_port.proofs.Ports as port
 use Rattle.lk_port.proofs.port.Port.tries_to_read.Goals as goal
 
 pub runs-requires : goal.runs-requires

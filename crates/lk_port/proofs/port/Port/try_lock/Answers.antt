@@ -1,5 +1,4 @@
-use Rattle.lk_names.specs.declared.names.Kind.TheVariants.{Spin}
-use Rattle.lk_port.specs.declared.answer.Answer.TheVariants.{Busy, Done}
+use Rattle.lk_port.proofs.Names.{Spin, Busy, Done}
 use Rattle.lk_port.proofs.Ports as port
 use Rattle.lk_port.proofs.port.Port.try_lock.Goals as goal
 

@@ -1,5 +1,4 @@
-use Rattle.lk_names.specs.declared.names.Kind.TheVariants.{Rw}
-use Rattle.lk_port.specs.declared.answer.Answer.TheVariants.{Done, Busy}
+use Rattle.lk_port.proofs.Names.{Rw, Busy, Done}
 use Rattle.lk_port.proofs.Ports as port
 use Rattle.lk_port.proofs.port.Port.try_write.Goals as goal
 

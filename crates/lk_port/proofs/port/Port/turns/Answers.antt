@@ -1,10 +1,9 @@
 use Rattle.std.proofs.Common.{ap, arith}
-use Rattle.lk_rows.specs.declared.setup.Verb.TheVariants.{Lock}
-use Rattle.lk_pvdomain.specs.PvCalls.{own_node}
+use Rattle.lk_port.proofs.Names.{Lock, own_node}
 use Rattle.lk_pvdomain.specs.PvTurns.{waiter_in}
-use Rattle.lk_port.proofs.HaltingPorts as port
 use Rattle.lk_port.proofs.Ports.{is_free, waited}
 use Rattle.lk_port.proofs.Shares.{halts_by, halts_waiting, is_of, still_in}
+use Rattle.lk_port.proofs.HaltingPorts as port
 use Rattle.lk_port.proofs.port.Port.turns.Goals as goal
 
 pub halting-requires : goal.halting-requires

@@ -1,5 +1,5 @@
-use Rattle.lk_names.specs.declared.names.Kind.TheVariants.{Spin}
-use Rattle.lk_port.specs.declared.answer.Answer.TheVariants.{Again, Done}
+use Rattle.lk_port.proofs.Names.{Spin, Done}
+use Rattle.lk_port.specs.declared.answer.Answer.TheVariants.{Again}
 use Rattle.lk_port.proofs.Ports as port
 use Rattle.lk_port.proofs.port.Port.unlock.Goals as goal
 

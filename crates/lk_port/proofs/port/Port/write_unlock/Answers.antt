@@ -1,5 +1,5 @@
-use Rattle.lk_names.specs.declared.names.Kind.TheVariants.{Rw}
-use Rattle.lk_port.specs.declared.answer.Answer.TheVariants.{Done, WrongManner}
+use Rattle.lk_port.proofs.Names.{Rw, Done}
+use Rattle.lk_port.specs.declared.answer.Answer.TheVariants.{WrongManner}
 use Rattle.lk_port.proofs.Ports as port
 use Rattle.lk_port.proofs.port.Port.write_unlock.Goals as goal
 
