@@ -1,6 +1,6 @@
 // What an act does, and whether that is sought.
 
-ghost use Rattle.std.specs.Prelude.{◌≡◌, ◌<◌, IfSome, IfNone, length, true, false};
+ghost use Rattle.std.specs.Prelude.{◌≡◌, ◌<◌, length, true, false};
 ghost use Rattle.lk_rows.specs.Acts.{next, processor_of};
 ghost use Rattle.lk_law.specs.Sound.{IsSound};
 ghost use Rattle.lk_reach.specs.Deeds.{IsSought, IsThat, Does, TellsKind, count_value, row_by};

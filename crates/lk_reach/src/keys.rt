@@ -1,6 +1,6 @@
 // The keys of states, one after another, in as many bytes as their numbers need.
 
-ghost use Rattle.std.specs.Prelude.{◌≡◌, ◌<◌, ◌≤◌, ◌++◌, ◌∷◌, [], IfSome, List, OnOk, Some, length, slice_get};
+ghost use Rattle.std.specs.Prelude.{◌≡◌, ◌<◌, ◌++◌, ◌∷◌, [], IfSome, List, OnOk, Some, length, slice_get};
 ghost use Rattle.lk_reach.specs.declared.key.Key.{Key as KeyValue};
 ghost use Rattle.lk_reach.specs.Numbers.{key_at, listed};
 

@@ -1,6 +1,6 @@
 // Which processors are alike: they have the same programs and handlers, and stand on one socket.
 
-ghost use Rattle.std.specs.Prelude.{◌≡◌, ◌<◌, ◌≤◌, length, true};
+ghost use Rattle.std.specs.Prelude.{◌≡◌, ◌<◌, ◌≤◌, true};
 ghost use Rattle.lk_rows.specs.Programs.{IsLawfulSetup};
 ghost use Rattle.lk_reach.specs.Peers.{AreFirsts, HasSameHandlers, IsPeer};
 

@@ -1,6 +1,6 @@
 // The states that were met. Two that differ in dead registers alone have one number.
 
-ghost use Rattle.std.specs.Prelude.{◌≡◌, ◌≢◌, ◌<◌, ◌≤◌, ◌++◌, ◌∷◌, [], IfOk, OnOk, IfSome, IfNone, ℕ, Some, length, slice_get, true, false};
+ghost use Rattle.std.specs.Prelude.{◌≡◌, ◌≢◌, ◌<◌, ◌≤◌, ◌++◌, ◌∷◌, [], IfOk, OnOk, IfSome, ℕ, Some, length, slice_get, true, false};
 ghost use Rattle.lk_rows.specs.Machine.{Machine as MachineValue, CpuState as CpuValue, cpu_at};
 ghost use Rattle.lk_machine.specs.Parts.{row_of};
 ghost use Rattle.lk_idle.specs.Alike.{AreAlike};

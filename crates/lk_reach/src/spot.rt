@@ -4,7 +4,6 @@
 ghost use Rattle.std.specs.Prelude.{◌≡◌, ◌<◌, ◌≤◌, IfSome, length};
 ghost use Rattle.lk_names.specs.declared.events.Act.TheVariants as act;
 ghost use Rattle.lk_rows.specs.Acts.{processor_of};
-ghost use Rattle.lk_reach.specs.declared.steps.Made.{Made as MadeValue};
 ghost use Rattle.lk_reach.specs.Explored.{IsSuch};
 ghost use Rattle.lk_reach.specs.Reach.{cpus_of};
 ghost use Rattle.lk_reach.specs.Steps.{AreMade, IsLed, IsMadeOn, IsRemembered, IsSpot, Remembers, then_key};

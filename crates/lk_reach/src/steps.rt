@@ -2,7 +2,7 @@
 // processor that makes it, and at most one other, and does the same whatever the others are (`lk_touch`).
 // So where these parts come together again, it need not be made again.
 
-ghost use Rattle.std.specs.Prelude.{◌≡◌, ◌<◌, [], IfSome, Some, slice_get, slice_set, true};
+ghost use Rattle.std.specs.Prelude.{◌≡◌, ◌<◌, [], IfSome, Some, slice_get, true};
 ghost use Rattle.lk_reach.specs.Steps.{Begins, IsFoundStep, MayForget, MayRemember, then_key};
 
 use crate::key::Key;

@@ -1,6 +1,6 @@
 // Shortest schedules to what a graph tells of.
 
-ghost use Rattle.std.specs.Prelude.{◌≡◌, ◌≢◌, ◌<◌, ◌∷◌, IfNone, IfOk, IfSome, List, OnOk, Some, length, slice_get};
+ghost use Rattle.std.specs.Prelude.{◌≡◌, ◌≢◌, ◌<◌, IfNone, IfOk, IfSome, List, Some, length, slice_get};
 ghost use Rattle.lk_names.specs.declared.events.Act.{Act as ActValue};
 ghost use Rattle.lk_reach.specs.declared.origin.Origin.{Origin as OriginValue};
 ghost use Rattle.lk_reach.specs.Reach.{AreMoves, MakesRow, state_after};

@@ -1,6 +1,6 @@
 // Schedules to the ends of a graph.
 
-ghost use Rattle.std.specs.Prelude.{◌≡◌, ◌≢◌, ℕ, IfNone, IfOk, IfSome, List, Some, slice_get, true};
+ghost use Rattle.std.specs.Prelude.{◌≢◌, ℕ, IfNone, IfOk, IfSome, List, Some, slice_get, true};
 ghost use Rattle.lk_names.specs.declared.events.Act.{Act as ActValue};
 ghost use Rattle.lk_reach.specs.Ends.{IsFirst, IsShortestToDoom, IsShortestToEnd, IsShortestToStuck, NobodyIsDoomed, NobodyIsStuck};
 ghost use Rattle.lk_reach.specs.Reach.{AreMoves, AreOver, state_after};

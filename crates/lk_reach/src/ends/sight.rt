@@ -1,6 +1,6 @@
 // What is seen of a processor: what an act of it changes, if it changes anything.
 
-ghost use Rattle.std.specs.Prelude.{◌≡◌, ◌≢◌, ◌<◌, length, true};
+ghost use Rattle.std.specs.Prelude.{◌≡◌, ◌≢◌, ◌<◌, true};
 ghost use Rattle.lk_rows.specs.Machine.{HasTop};
 ghost use Rattle.lk_rows.specs.Programs.{HasPrograms};
 ghost use Rattle.lk_reach.specs.Sights.{sight_of};

@@ -1,7 +1,7 @@
 // Where an act leads from a state, by making it. Unlike where helpers look, parts that nobody had met are
 // met then.
 
-ghost use Rattle.std.specs.Prelude.{◌≡◌, ◌<◌, ◌≤◌, IfOk, OnOk, length};
+ghost use Rattle.std.specs.Prelude.{◌<◌, ◌≤◌, IfOk, OnOk, length};
 ghost use Rattle.lk_rows.specs.Acts.{processor_of};
 ghost use Rattle.lk_reach.specs.Explored.{IsSuch};
 ghost use Rattle.lk_reach.specs.Reach.{cpus_of};

@@ -1,6 +1,6 @@
 // What can be said of a machine by those who only look at the states that were met.
 
-ghost use Rattle.std.specs.Prelude.{◌≡◌, ◌<◌, ◌≤◌, IfOk, IfSome, Some, length, slice_get};
+ghost use Rattle.std.specs.Prelude.{◌≡◌, ◌<◌, ◌≤◌, IfOk, IfSome, Some, length};
 ghost use Rattle.lk_rows.specs.Machine.{Machine as MachineValue};
 ghost use Rattle.lk_idle.specs.Alike.{AreAlike};
 ghost use Rattle.lk_reach.specs.Helped.{IsKeyNoted};
