@@ -33,11 +33,10 @@ pub(crate) fn fill(
 {
     let word = place_of(domain, place);
     let pair = pair_of(domain, lock, node);
-    let met = domain
+    domain
         .table
         .shared
-        .compare_exchange::<Fillings>(seat, word, 0, pair);
-    met
+        .compare_exchange::<Fillings>(seat, word, 0, pair)
 }
 
 // Puts the lock into the hash at the first place that it finds empty: the rows E6 and K3. It tries
@@ -71,8 +70,7 @@ pub(crate) fn look_place(seat: &mut Right, domain: &Domain, lock: u32, place: us
     ensures step { SeesPlace lock seat.old.me result seat.new.me }
 {
     let word = place_of(domain, place);
-    let met = domain.table.shared.load::<PlaceLooks>(seat, word);
-    met
+    domain.table.shared.load::<PlaceLooks>(seat, word)
 }
 
 // Finds the place of the lock's entry. It reads each place at most once.
@@ -106,8 +104,7 @@ pub(crate) fn erase(seat: &mut Right, domain: &Domain, lock: u32, place: usize) 
     ensures step { EmptiesAt lock seat.old.me result seat.new.me }
 {
     let word = place_of(domain, place);
-    let met = domain.table.shared.swap::<Erasings>(seat, word, 0);
-    met
+    domain.table.shared.swap::<Erasings>(seat, word, 0)
 }
 
 // Finds the entry of the lock and takes it out: the rows U3 and E9, with the reads before them.

@@ -24,8 +24,7 @@ pub(crate) fn halt(seat: &mut Right, domain: &Domain, own: NodeName) -> u64
     ensures step { Halts seat.old.me result seat.new.me }
 {
     let word = kick_of(domain, own.cpu);
-    let met = domain.table.shared.load::<HaltLooks>(seat, word);
-    met
+    domain.table.shared.load::<HaltLooks>(seat, word)
 }
 
 // Takes the kick, if there is one, which ends the halt.
@@ -37,8 +36,7 @@ pub(crate) fn wake(seat: &mut Right, domain: &Domain, own: NodeName) -> u64
     ensures step { Wakes seat.old.me result seat.new.me }
 {
     let word = kick_of(domain, own.cpu);
-    let met = domain.table.shared.swap::<Wakings>(seat, word, 0);
-    met
+    domain.table.shared.swap::<Wakings>(seat, word, 0)
 }
 
 // Takes the kick, if there is one, and returns whether there was. It looks first: an exchange would

@@ -20,8 +20,7 @@ fn look_reset(seat: &mut Right, domain: &Domain, own: NodeName, part: Part) -> u
     ensures stays { result ≢ 0 → seat.new.me ≡ seat.old.me }
 {
     let word = domain.plan.node_of(own, part);
-    let met = domain.table.shared.load::<ResetLooks>(seat, word);
-    met
+    domain.table.shared.load::<ResetLooks>(seat, word)
 }
 
 // Resets the flag or the link of the node that the call gets next. It stores only if a read does

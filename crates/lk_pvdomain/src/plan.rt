@@ -29,20 +29,16 @@ impl PvPlan {
         ensures plan { IfOk result (IsPlanOf self.now) }
         ensures none { IfOk result (λ plan. plan.cells ≡ None) }
     {
-        let topology = Topology {
-            sockets: List::filled(alloc, 0, self.shares.len())?,
-        };
-        let locks = List::filled(alloc, Kind::Spin, self.locks as usize)?;
-        let balances = List::from_slice(alloc, self.balances.as_slice())?;
-        let shares = List::from_slice(alloc, self.shares.as_slice())?;
         Ok(Plan {
             format: self.format,
             mode: Mode::Pv,
-            topology,
+            topology: Topology {
+                sockets: List::filled(alloc, 0, self.shares.len())?,
+            },
             threshold: self.spins,
-            locks,
-            balances,
-            shares,
+            locks: List::filled(alloc, Kind::Spin, self.locks as usize)?,
+            balances: List::from_slice(alloc, self.balances.as_slice())?,
+            shares: List::from_slice(alloc, self.shares.as_slice())?,
             cells: None,
         })
     }

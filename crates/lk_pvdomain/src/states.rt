@@ -39,8 +39,7 @@ pub(crate) fn look_state(seat: &mut Right, domain: &Domain, node: NodeName) -> u
     ensures step { SeesState seat.old.me result seat.new.me }
 {
     let word = state_of(domain, node);
-    let met = domain.table.shared.load::<StateSteps>(seat, word);
-    met
+    domain.table.shared.load::<StateSteps>(seat, word)
 }
 
 // Stores the own state: the rows W3, E2 and E10.
@@ -53,8 +52,7 @@ pub(crate) fn store_state(seat: &mut Right, domain: &Domain, node: NodeName, sta
 {
     let word = state_of(domain, node);
     let number = number_of(state);
-    let met = domain.table.shared.swap::<StateSteps>(seat, word, number);
-    met
+    domain.table.shared.swap::<StateSteps>(seat, word, number)
 }
 
 // Swaps a state that is halted: the rows W7, of the own node to running, and K1, of the successor's
@@ -68,11 +66,10 @@ pub(crate) fn rouse(seat: &mut Right, domain: &Domain, node: NodeName, state: St
 {
     let word = state_of(domain, node);
     let number = number_of(state);
-    let met = domain
+    domain
         .table
         .shared
-        .compare_exchange::<StateSteps>(seat, word, HALTED, number);
-    met
+        .compare_exchange::<StateSteps>(seat, word, HALTED, number)
 }
 
 // Reads the state of the node that the call gets next. If it is 0 the call enters the slow path.
@@ -85,8 +82,7 @@ fn look_entry(seat: &mut Right, domain: &Domain, own: NodeName) -> u64
     ensures stays { result ≢ 0 → seat.new.me ≡ seat.old.me }
 {
     let word = state_of(domain, own);
-    let met = domain.table.shared.load::<EntryLooks>(seat, word);
-    met
+    domain.table.shared.load::<EntryLooks>(seat, word)
 }
 
 // Stores 0 into it, with which the call enters the slow path.
@@ -98,8 +94,7 @@ fn store_entry(seat: &mut Right, domain: &Domain, own: NodeName) -> u64
     ensures step { Enters seat.old.me result seat.new.me }
 {
     let word = state_of(domain, own);
-    let met = domain.table.shared.swap::<Entries>(seat, word, 0);
-    met
+    domain.table.shared.swap::<Entries>(seat, word, 0)
 }
 
 // Resets the state of the node that the call gets next, with which the call enters the slow path:

@@ -40,9 +40,8 @@ pub(crate) fn quit(seat: &mut Right, domain: &Domain, lock: u32, own: NodeName) 
 {
     let word = domain.plan.lock_word(lock);
     let last = domain.plan.tail_of(own) + HELD;
-    let met = domain
+    domain
         .table
         .shared
-        .compare_exchange::<WordSteps>(seat, word, last, HELD);
-    met
+        .compare_exchange::<WordSteps>(seat, word, last, HELD)
 }

@@ -3,8 +3,8 @@ use Rattle.lk_pvdomain.proofs.Names.{LockName, far_words, running, EmptiesAt}
 use Rattle.lk_pvdomain.proofs.OnSeeks.{erase_asks}
 use Rattle.lk_pvdomain.proofs.hash.erase.Goals as goal
 
-pub swap-met-requires : goal.swap-met-requires
-swap-met-requires c =
+pub swap-requires : goal.swap-requires
+swap-requires c =
     let d = c.args.domain.now in
     let z = d.table.shared.table_id in
     let h = c.requires.row in (
@@ -18,5 +18,5 @@ swap-met-requires c =
 pub returns-clause-step : goal.returns-clause-step
 returns-clause-step c =
     let h = c.requires.row in
-    subst (λ (z : LockName). EmptiesAt z.index c.args.seat.now.me c.swap-met.result c.swap-met.new.seat.me) h.stands.lock
-    (c.swap-met.ensures.2 (running h.verb h.stands.frame h.stands.trail) h.stands.rest h.stands.is)
+    subst (λ (z : LockName). EmptiesAt z.index c.args.seat.now.me c.swap.result c.swap.new.seat.me) h.stands.lock
+    (c.swap.ensures.2 (running h.verb h.stands.frame h.stands.trail) h.stands.rest h.stands.is)

@@ -3,8 +3,8 @@ use Rattle.lk_pvdomain.proofs.Names.{far_words}
 use Rattle.lk_pvdomain.proofs.OnHash.{fill_asks}
 use Rattle.lk_pvdomain.proofs.hash.fill.Goals as goal
 
-pub compare_exchange-met-requires : goal.compare_exchange-met-requires
-compare_exchange-met-requires c =
+pub compare_exchange-requires : goal.compare_exchange-requires
+compare_exchange-requires c =
     let d = c.args.domain.now in
     let z = d.table.shared.table_id in (
       c.requires.on.1.table_is,

@@ -4,8 +4,8 @@ use Rattle.lk_pvdomain.proofs.OnSeeks.{look_asks}
 use Rattle.lk_pvdomain.specs.PvPlays.{SeesPlace}
 use Rattle.lk_pvdomain.proofs.hash.look_place.Goals as goal
 
-pub load-met-requires : goal.load-met-requires
-load-met-requires c =
+pub load-requires : goal.load-requires
+load-requires c =
     let d = c.args.domain.now in
     let z = d.table.shared.table_id in (
       c.requires.on.1.table_is,
@@ -18,5 +18,5 @@ load-met-requires c =
 pub returns-clause-step : goal.returns-clause-step
 returns-clause-step c =
     let h = c.requires.row in
-    subst (λ (z : LockName). SeesPlace z.index c.args.seat.now.me c.load-met.result c.load-met.new.seat.me) h.stands.lock
-    (c.load-met.ensures.2 (running h.verb h.stands.frame h.stands.trail) h.stands.rest h.stands.is)
+    subst (λ (z : LockName). SeesPlace z.index c.args.seat.now.me c.load.result c.load.new.seat.me) h.stands.lock
+    (c.load.ensures.2 (running h.verb h.stands.frame h.stands.trail) h.stands.rest h.stands.is)

@@ -3,8 +3,8 @@ use Rattle.lk_pvdomain.proofs.Names.{far_words}
 use Rattle.lk_pvdomain.proofs.plays.MarkPlays.{halt_asks}
 use Rattle.lk_pvdomain.proofs.kicks.halt.Goals as goal
 
-pub load-met-requires : goal.load-met-requires
-load-met-requires c =
+pub load-requires : goal.load-requires
+load-requires c =
     let d = c.args.domain.now in
     let z = d.table.shared.table_id in (
       c.requires.of.table_is,

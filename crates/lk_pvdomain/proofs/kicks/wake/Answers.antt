@@ -3,8 +3,8 @@ use Rattle.lk_pvdomain.proofs.Names.{far_words}
 use Rattle.lk_pvdomain.proofs.plays.MarkPlays.{wake_asks}
 use Rattle.lk_pvdomain.proofs.kicks.wake.Goals as goal
 
-pub swap-met-requires : goal.swap-met-requires
-swap-met-requires c =
+pub swap-requires : goal.swap-requires
+swap-requires c =
     let d = c.args.domain.now in
     let z = d.table.shared.table_id in (
       c.requires.of.table_is,

@@ -5,8 +5,8 @@ use Rattle.lk_domain.specs.{NodePlays.Readies, Words.node_at}
 use Rattle.lk_pvdomain.proofs.Spared.{spared}
 use Rattle.lk_pvdomain.proofs.nodes.look_reset.Goals as goal
 
-pub load-met-requires : goal.load-met-requires
-load-met-requires c =
+pub load-requires : goal.load-requires
+load-requires c =
     let d = c.args.domain.now in
     let k = d.table.shared.key in
     let z = d.table.shared.table_id in
@@ -21,8 +21,8 @@ load-met-requires c =
 
 pub returns-clause-spares : goal.returns-clause-spares
 returns-clause-spares c e =
-    c.load-met.ensures.2.spares e c.args.own c.args.part
+    c.load.ensures.2.spares e c.args.own c.args.part
     (c.node_of-word.ensures ∙ (λ j. node_at (sym c.requires.of.plan j) c.args.own c.args.part))
 
 pub returns-clause-stays : goal.returns-clause-stays
-returns-clause-stays c ne = c.load-met.ensures.2.stays ne
+returns-clause-stays c ne = c.load.ensures.2.stays ne

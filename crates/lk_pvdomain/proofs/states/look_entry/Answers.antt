@@ -3,8 +3,8 @@ use Rattle.lk_pvdomain.proofs.Names.{far_words, Enters}
 use Rattle.lk_pvdomain.proofs.{PvEntries.enter_asks, Spared.spared}
 use Rattle.lk_pvdomain.proofs.states.look_entry.Goals as goal
 
-pub load-met-requires : goal.load-met-requires
-load-met-requires c =
+pub load-requires : goal.load-requires
+load-requires c =
     let d = c.args.domain.now in
     let z = d.table.shared.table_id in
     let i = c.state_of-word.result in
@@ -17,7 +17,7 @@ load-met-requires c =
     )
 
 pub returns-clause-spares : goal.returns-clause-spares
-returns-clause-spares c e = c.load-met.ensures.2.spares e
+returns-clause-spares c e = c.load.ensures.2.spares e
 
 pub returns-clause-stays : goal.returns-clause-stays
-returns-clause-stays c ne = c.load-met.ensures.2.stays ne
+returns-clause-stays c ne = c.load.ensures.2.stays ne

@@ -3,8 +3,8 @@ use Rattle.lk_pvdomain.proofs.Names.{far_words}
 use Rattle.lk_pvdomain.proofs.plays.StatePlays.{look_on}
 use Rattle.lk_pvdomain.proofs.states.look_state.Goals as goal
 
-pub load-met-requires : goal.load-met-requires
-load-met-requires c =
+pub load-requires : goal.load-requires
+load-requires c =
     let d = c.args.domain.now in
     let z = d.table.shared.table_id in (
       c.requires.on.1.table_is,

@@ -3,8 +3,8 @@ use Rattle.lk_pvdomain.proofs.Names.{far_words, state_number}
 use Rattle.lk_pvdomain.proofs.plays.StatePlays.{store_on}
 use Rattle.lk_pvdomain.proofs.states.store_state.Goals as goal
 
-pub swap-met-requires : goal.swap-met-requires
-swap-met-requires c =
+pub swap-requires : goal.swap-requires
+swap-requires c =
     let d = c.args.domain.now in
     let z = d.table.shared.table_id in (
       c.requires.on.1.table_is,

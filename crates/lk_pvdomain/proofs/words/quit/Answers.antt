@@ -3,8 +3,8 @@ use Rattle.lk_pvdomain.proofs.Names.{lock_name}
 use Rattle.lk_pvdomain.proofs.Quits.{quit_asks}
 use Rattle.lk_pvdomain.proofs.words.quit.Goals as goal
 
-pub compare_exchange-met-requires : goal.compare_exchange-met-requires
-compare_exchange-met-requires c =
+pub compare_exchange-requires : goal.compare_exchange-requires
+compare_exchange-requires c =
     let d = c.args.domain.now in
     let z = d.table.shared.table_id in (
       c.requires.of.table_is,
