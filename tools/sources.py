@@ -6,6 +6,8 @@ from collections import defaultdict
 from pathlib import PurePosixPath
 
 CODE = re.compile(r"\b(?:fn|struct|enum|trait|const|static|type|mod)\s+(\w+)")
+EXPORT = re.compile(r"\bpub use [^;]+;")
+OTHER_NAME = re.compile(r"\bas\s+(\w+)")
 CLAUSE = re.compile(r"\b(?:ensures|requires|invariant)\s+(\w+)\s*\{")
 MEMBER = re.compile(r"^\s+(?:pub\s+)?(\w+)(?:\s*[:({,]|\s*$)", re.M)
 DEFINITION = re.compile(r"^\s*(?:(?:pub|abbrev|data|record|mutual|postulate)\s+)*([\w'◌]+)(?:\s+[({].*)?\s*:", re.M)
@@ -91,7 +93,8 @@ def names_in(path, text):
         text = re.sub(r"--.*", "", text)
         return DEFINITION.findall(text)
     text = re.sub(r"//.*", "", text)
-    return CODE.findall(text) + CLAUSE.findall(text) + MEMBER.findall(text)
+    others = [name for export in EXPORT.findall(text) for name in OTHER_NAME.findall(export)]
+    return CODE.findall(text) + others + CLAUSE.findall(text) + MEMBER.findall(text)
 
 
 
