@@ -17,8 +17,9 @@ of_in cpu d i awake = record { table = i.table; plan = i.plan; low = i.low; awak
 abbrev pub seat_in : (cpu : Cpu) (d : Domain) → IsIn cpu d → IsSeatOf d.plan d.table.shared.table_id cpu.seat
 seat_in cpu d i = record { table_is = i.table; plan_is = i.plan; number = (cpu.number, cpu.numbered); carried = cpu.carried }
 
-abbrev pub seat_of : (cpu : Cpu) (d : Domain) → IsOf cpu d → IsSeatOf d.plan d.table.shared.table_id cpu.seat
-seat_of cpu d o = record { table_is = o.table; plan_is = o.plan; number = (cpu.number, cpu.numbered); carried = cpu.carried }
+-- or of one that a type has inside
+pub seat_inside : (cpu : Cpu) (d e : Domain) → d ≡ e → IsIn cpu e → IsSeatOf d.plan d.table.shared.table_id cpu.seat
+seat_inside cpu d e same i = seat_in cpu d (subst (λ (x : Domain). IsIn cpu x) (sym same) i)
 
 -- what it notes, where its family halts none
 

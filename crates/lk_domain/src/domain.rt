@@ -27,6 +27,26 @@ pub struct Domain {
     ghost key: { table.shared.key ≡ plan },
 }
 
+/// A domain as its user has it: a [`Domain`], or one inside a type that says more of it.
+pub trait HasDomain {
+    ghost use Rattle.lk_domain.specs.declared.domain.Domain.{Domain};
+
+    /// The domain.
+    ghost inside: { Self → Domain };
+
+    /// The domain.
+    fn domain(&self) -> &Domain
+        ensures { result.now ≡ inside self.now };
+}
+
+impl HasDomain for Domain {
+    ghost inside = { λ domain. domain };
+
+    fn domain(&self) -> &Domain {
+        self
+    }
+}
+
 /// The name of a lock in its domain.
 #[derive(Clone, Copy, Debug, PartialEq, Eq)]
 pub struct LockId {

@@ -25,7 +25,7 @@ pub mod values;
 mod view;
 
 pub use cpu::{Cpu, Right};
-pub use domain::{Domain, LockId};
+pub use domain::{Domain, HasDomain, LockId};
 pub use ending::{CloseBack, Closed, close};
 pub use free_turns::{Waiting, turn, work_held};
 pub use ledger::{Journal, journal_home, journal_out, load, steps as ledger_steps, store, version};

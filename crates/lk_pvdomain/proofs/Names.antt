@@ -42,7 +42,7 @@ pub use Rattle.lk_law.specs.Leads.{Marked, Met, Named, Stated, Word, enters, met
 pub use Rattle.lk_law.specs.SpinWorld.{IsSoundSpinWorld}
 pub use Rattle.lk_law.specs.World.{World}
 pub use Rattle.lk_domain.proofs.Acting.{acting_is}
-pub use Rattle.lk_domain.proofs.Seating.{seat_in, table_of}
+pub use Rattle.lk_domain.proofs.Seating.{table_of}
 pub use Rattle.lk_domain.proofs.queue.LockSwaps.{stands}
 pub use Rattle.lk_domain.proofs.queue.NodePlays.{acts', asks, calls_are, kept}
 pub use Rattle.lk_domain.proofs.queue.OnNodes.{in_plan, top_live}

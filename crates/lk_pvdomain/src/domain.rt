@@ -6,7 +6,7 @@ ghost use Rattle.lk_law.specs.Agree.{halts};
 use crate::kicks;
 use crate::layout::state_of;
 use crate::states::RUNNING;
-use lk_domain::{Cpu, Domain, LockId};
+use lk_domain::{Cpu, Domain, HasDomain, LockId};
 use lk_word::NodeName;
 use std::sync::Wait;
 
@@ -20,6 +20,14 @@ pub struct PvDomain {
 
 /// A processor of a [`PvDomain`]. The thread that has it may call the locks of that domain.
 pub type PvCpu = Cpu;
+
+impl HasDomain for PvDomain {
+    ghost inside = { λ domain. domain.domain };
+
+    fn domain(&self) -> &Domain {
+        &self.domain
+    }
+}
 
 impl PvDomain {
     /// The number of accounts of its ledger, at most 64.

@@ -23,7 +23,6 @@ mod leading;
 mod making;
 mod nodes;
 mod pacing;
-mod pages;
 mod plan;
 mod polled;
 mod rest;
@@ -40,7 +39,11 @@ pub use domain::{PvCpu, PvDomain};
 pub use ending::{PvBack, PvClosed, pv_close};
 pub use freeing::PvRelease;
 pub use laws::{entries_are_found, fronts_are_kicked};
-pub use pages::{pv_journal_home, pv_journal_out, pv_load, pv_store, pv_version};
+// The calls on the words of the ledger are those of each family.
+pub use lk_domain::{
+    journal_home as pv_journal_home, journal_out as pv_journal_out, load as pv_load,
+    store as pv_store, version as pv_version,
+};
 pub use plan::PvPlan;
 pub use polled::{pv_begin, pv_poll};
 pub use waiter::{PvTurn, PvWaiter};

@@ -16,8 +16,6 @@ mod pv_calls;
 #[cfg(test)]
 mod pv_halts;
 #[cfg(test)]
-mod pv_ledger_calls;
-#[cfg(test)]
 mod pv_polls;
 #[cfg(test)]
 mod pv_region;

@@ -1,21 +1,18 @@
 use Rattle.std.proofs.Common.{refl, ap, ◌∙◌}
 use Rattle.lk_domain.proofs.Names.{Who}
-use Rattle.lk_domain.proofs.Seating.{table_of, seat_of}
+use Rattle.lk_domain.proofs.Seating.{table_of, seat_inside}
 use Rattle.lk_domain.proofs.journals.Told as told
 use Rattle.lk_domain.proofs.ledger.pages.journal_home.Goals as goal
 
-pub journal_home-requires : goal.journal_home-requires
-journal_home-requires c =
-    let d = c.args.domain.now in
-    record {
-      table = table_of d;
-      seat = seat_of c.args.cpu.now d c.requires.domain;
-      held = c.requires.held;
-      may = (c.args.cpu.now.number, c.args.cpu.now.numbered, c.requires.may);
-    }
+pub journal_home-requires-clause-table : goal.journal_home-requires-clause-table
+journal_home-requires-clause-table g c = table_of c.domain-domain.result.now
+
+pub journal_home-requires-clause-seat : goal.journal_home-requires-clause-seat
+journal_home-requires-clause-seat g c =
+    seat_inside c.args.cpu.now c.domain-domain.result.now (g.D.HasDomain.inside c.args.domain.now) c.domain-domain.ensures c.requires.domain
 
 pub invariant_of-cpu : goal.invariant_of-cpu
-invariant_of-cpu c =
+invariant_of-cpu g c =
     let cpu = c.args.cpu.now in
     let old = cpu.seat.me.0.calls in
     let new = c.journal_home.new.seat.me.0.calls in
@@ -28,9 +25,9 @@ invariant_of-cpu c =
     }
 
 pub returns-clause-rest : goal.returns-clause-rest
-returns-clause-rest c =
+returns-clause-rest g c =
     let kept = c.journal_home.ensures.rest in
     record { same = record { table = kept.table; id = kept.id; number = refl; who = kept.who }; calls = kept.calls }
 
 pub returns-clause-ledger : goal.returns-clause-ledger
-returns-clause-ledger c = c.journal_home.ensures.ledger c.args.cpu.now.number c.args.cpu.now.numbered
+returns-clause-ledger g c = c.journal_home.ensures.ledger c.args.cpu.now.number c.args.cpu.now.numbered

@@ -1,20 +1,18 @@
 use Rattle.std.proofs.Common.{refl, ap, ◌∙◌}
 use Rattle.lk_domain.proofs.Names.{Who}
-use Rattle.lk_domain.proofs.Seating.{table_of, seat_of}
+use Rattle.lk_domain.proofs.Seating.{table_of, seat_inside}
 use Rattle.lk_domain.proofs.journals.Told as told
 use Rattle.lk_domain.proofs.ledger.pages.version.Goals as goal
 
-pub version-requires : goal.version-requires
-version-requires c =
-    let d = c.args.domain.now in
-    record {
-      table = table_of d;
-      seat = seat_of c.args.cpu.now d c.requires.domain;
-      held = c.requires.held;
-    }
+pub version-requires-clause-table : goal.version-requires-clause-table
+version-requires-clause-table g c = table_of c.domain-domain.result.now
+
+pub version-requires-clause-seat : goal.version-requires-clause-seat
+version-requires-clause-seat g c =
+    seat_inside c.args.cpu.now c.domain-domain.result.now (g.D.HasDomain.inside c.args.domain.now) c.domain-domain.ensures c.requires.domain
 
 pub invariant_of-cpu : goal.invariant_of-cpu
-invariant_of-cpu c =
+invariant_of-cpu g c =
     let cpu = c.args.cpu.now in
     let old = cpu.seat.me.0.calls in
     let new = c.version.new.seat.me.0.calls in
@@ -27,6 +25,6 @@ invariant_of-cpu c =
     }
 
 pub returns-clause-rest : goal.returns-clause-rest
-returns-clause-rest c =
+returns-clause-rest g c =
     let kept = c.version.ensures.rest in
     record { same = record { table = kept.table; id = kept.id; number = refl; who = kept.who }; calls = kept.calls }

@@ -1,7 +1,7 @@
 use Rattle.std.proofs.Common.{ap, ◌∙◌}
 use Rattle.lk_domain.specs.Ledgers.{Ledger}
 use Rattle.lk_guard.proofs.PvBegins.{pv_begins}
-use Rattle.lk_thread_tests.proofs.pv_ledger_calls.hold.Goals as goal
+use Rattle.lk_thread_tests.proofs.ledger_calls.pv_hold.Goals as goal
 
 pub returns-clause-holding : goal.returns-clause-holding
 returns-clause-holding g c =
