@@ -91,23 +91,21 @@ pub(crate) fn copy_of<'a, T>(
     shared.cells.get(1 + number as usize)
 }
 
-// Works once on the copy of a value for the processor of this number. The lock is held alone, or by the
+// Sets the copy of a value for the processor of this number to this. The lock is held alone, or by the
 // reader with this number.
-fn work_on_copy<T, U, W: FnOnce(&mut T) -> U>(
+fn set_copy<T: Copy + Drop>(
     cpu: &mut Cpu,
     domain: &Domain,
     shared: &Shared<T>,
     number: u32,
-    work: W,
-) -> U
+    value: T,
+)
     requires ready { IsReady domain.now cpu.old }
     requires lock { IsSharedUnder domain.now.plan shared.now.id.index
         (names_of shared.now.cells.items) }
     requires number { number < cpus_of domain.now.plan }
     requires held { MayCopy shared.now.id.index number (view_of cpu.old) }
-    requires callable { W.IsAlwaysCallable work }
-    ensures still { IsStill cpu.old cpu.new }
-    ensures done { (x : T) × (y : T) × FnOnceReturnsAtMut W.FnOnce work x result y }
+    ensures { IsStill cpu.old cpu.new }
 {
     let cell = copy_of(domain, shared, number);
     with_copy(
@@ -115,13 +113,11 @@ fn work_on_copy<T, U, W: FnOnce(&mut T) -> U>(
         domain,
         shared.id,
         number,
-        |key: &mut Key| -> U
-            requires key { IsKey cell.now.table.shared.table_id key.old }
-            requires callable { W.IsAlwaysCallable work }
-            ensures key { IsKey cell.entry.now.table.shared.table_id key.new }
-            ensures done { (x : T) × (y : T) × FnOnceReturnsAtMut W.FnOnce work x result y }
-        { cell.with(key, work) },
-    )
+        |key: &mut Key|
+            requires { IsKey cell.now.table.shared.table_id key.old }
+            ensures { IsKey cell.entry.now.table.shared.table_id key.new }
+        { cell.with(key, |copy: &mut T| *copy = value) },
+    );
 }
 
 // Sets each copy of a value to this. The lock is held by its writer.
@@ -140,6 +136,6 @@ pub(crate) fn set_copies<T: Copy + Drop>(
     let sockets = &domain.plan.topology.sockets;
     prove!(sockets.len() <= MOST_CPUS);
     for number in 0..sockets.len() as u32 {
-        work_on_copy(cpu, domain, shared, number, |copy: &mut T| *copy = value);
+        set_copy(cpu, domain, shared, number, value);
     }
 }
