@@ -1,5 +1,5 @@
 // A race for a lock with nothing under it.
-ghost use Rattle.std.specs.Prelude.{◌≡◌, false};
+ghost use Rattle.std.specs.Prelude.{◌≡◌, ◌≤◌, false};
 ghost use Rattle.lk_names.specs.declared.names.Kind.TheVariants.{Rw, Spin};
 ghost use Rattle.lk_law.specs.Agree.{halts};
 ghost use Rattle.lk_domain.specs.Plans.{kind_at, locks_of};
@@ -10,6 +10,7 @@ use crate::plan::LOCK;
 use crate::track::Track;
 use lk_domain::{Cpu, Domain};
 use lk_names::{Kind, Mode};
+use lk_pvdomain::{PvDomain, pv_lock, pv_unlock};
 use lk_run::{NoIrq, lock, read_lock, read_unlock, unlock, write_lock, write_unlock};
 use std::sync::Wait;
 
@@ -18,11 +19,14 @@ use std::sync::Wait;
 pub struct BareRace {
     /// The lock family.
     pub mode: Mode,
-    /// The kind of the lock.
+    /// The kind of the lock: in mode `pv` a spinlock.
     pub kind: Kind,
+    /// In mode `pv`, how many turns a waiter spins before it halts, at least 1.
+    pub spins: u16,
     /// What its threads do.
     pub course: Course,
-    ghost awake: { halts mode ≡ false },
+    ghost some: { 1 ≤ spins },
+    ghost awake: { kind ≡ Rw → halts mode ≡ false },
 }
 
 /// What the threads share: a domain with one spinlock.
@@ -46,6 +50,33 @@ impl Track for BareTrack<'_> {
         for _ in 0..turns {
             lock(cpu, rt, domain, LOCK, &mut NoIrq);
             unlock(cpu, domain, LOCK);
+        }
+    }
+
+    ghost own = { λ track i cpu rests. rests.number };
+}
+
+/// What the threads share: a domain with one lock, whose waiters halt.
+#[derive(Drop)]
+pub struct PvBareTrack<'a> {
+    pub domain: &'a PvDomain,
+    ghost one: { locks_of domain.now.domain.plan ≡ 1 },
+}
+
+impl Track for PvBareTrack<'_> {
+    type Cpu = Cpu;
+
+    ghost rests = { λ track. Rests track.domain.now.domain };
+
+    ghost number = { λ cpu. cpu.number };
+
+    // The loop is a function of its own, so that the code around it does not change its speed.
+    #[inline(never)]
+    fn take_turns<R: Wait>(&self, rt: &R, cpu: &mut Cpu, turns: u32) {
+        let domain = self.domain;
+        for _ in 0..turns {
+            pv_lock(cpu, rt, domain, LOCK);
+            pv_unlock(cpu, rt, domain, LOCK);
         }
     }
 

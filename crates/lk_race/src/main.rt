@@ -22,29 +22,28 @@
 //! plan, the domain that is made of it with its processors, the calls, and the end of the domain.
 #![tactic(auto)]
 
-ghost use Rattle.std.specs.Prelude.{◌<◌, length};
+ghost use Rattle.std.specs.Prelude.{◌≡◌, ◌<◌, false, length};
+ghost use Rattle.lk_law.specs.Agree.{halts};
 ghost use Rattle.lk_race.specs.Tracks.{AllRest};
 
 mod bare_race;
 mod course;
 mod mutex_race;
 mod plan;
-mod pv_bare_race;
 mod rw_race;
 mod spin_race;
 mod track;
 mod value;
 mod words;
 
-use bare_race::{BareRace, BareRwTrack, BareTrack};
+use bare_race::{BareRace, BareRwTrack, BareTrack, PvBareTrack};
 use course::Course;
 use lk_domain::{Domain, close};
 use lk_lock::{Locks, Open};
-use lk_names::{Kind, List, Memory};
+use lk_names::{Kind, List, Memory, Mode};
 use lk_pvdomain::{PvDomain, pv_close};
 use mutex_race::{MutexRace, take_all_mutex_turns};
 use plan::{plan_of, pv_plan_of, two_sockets};
-use pv_bare_race::{PvBareRace, PvBareTrack};
 use rw_race::{RwRace, RwTrack};
 use spin_race::{Size, SpinRace, SpinTrack};
 use std::io;
@@ -85,13 +84,16 @@ fn of_nothing(rt: &impl AllocGlobal, course: &Course, time: io::Result<Duration>
     }
 }
 
-// A race for a lock with nothing under it, from the plan of its domain to the domain's end.
-fn bare<R: Threads + Wait + Sync + AllocGlobal + Clock>(
+// A race for a lock with nothing under it, whose waiters never halt, from the plan of its domain to
+// the domain's end.
+fn awake_bare<R: Threads + Wait + Sync + AllocGlobal + Clock>(
     rt: &R,
     race: &BareRace,
-) -> Result<Outcome, Memory> {
+) -> Result<Outcome, Memory>
+    requires { halts race.now.mode ≡ false }
+{
     let course = race.course;
-    let plan = plan_of(rt.alloc(), race.mode, race.kind, &course)?;
+    let plan = plan_of(rt.alloc(), race)?;
     let (domain, mut cpus) = Domain::new(rt.alloc(), &plan)?;
     let turns = course.turns;
     let time = match race.kind {
@@ -104,10 +106,10 @@ fn bare<R: Threads + Wait + Sync + AllocGlobal + Clock>(
     }
 }
 
-// A race for a paravirtual lock with nothing under it.
+// The same for a paravirtual lock.
 fn pv_bare<R: Threads + Wait + Sync + AllocGlobal + Clock>(
     rt: &R,
-    race: &PvBareRace,
+    race: &BareRace,
 ) -> Result<Outcome, Memory> {
     let course = race.course;
     let plan = pv_plan_of(rt.alloc(), race)?;
@@ -117,6 +119,17 @@ fn pv_bare<R: Threads + Wait + Sync + AllocGlobal + Clock>(
     match pv_close(rt.alloc(), domain, cpus) {
         Ok(_) => Ok(of_nothing(rt, &course, time)),
         Err(_) => Err(Memory),
+    }
+}
+
+// A race for a lock with nothing under it.
+fn bare<R: Threads + Wait + Sync + AllocGlobal + Clock>(
+    rt: &R,
+    race: &BareRace,
+) -> Result<Outcome, Memory> {
+    match race.mode {
+        Mode::Virt | Mode::Native | Mode::Cna => awake_bare(rt, race),
+        Mode::Pv => pv_bare(rt, race),
     }
 }
 
@@ -215,7 +228,6 @@ fn carry_out<R: Threads + Wait + Sync + AllocGlobal + Clock>(
             Size::Large => mutex(rt, race, [0u64; 128]),
         },
         Asked::Rw(race) => rw(rt, race),
-        Asked::PvBare(race) => pv_bare(rt, race),
     }
 }
 

@@ -1,13 +1,12 @@
 // The plans of the domains.
-ghost use Rattle.std.specs.Prelude.{◌≡◌, ◌≤◌, IfOk, false, length};
+ghost use Rattle.std.specs.Prelude.{◌≡◌, IfOk, false, length};
 ghost use Rattle.lk_law.specs.Agree.{halts};
 ghost use Rattle.lk_domain.specs.Plans.{IsLawfulPlan, cpus_of, kind_at, locks_of};
 ghost use Rattle.lk_pvdomain.specs.PvPlans.{IsLawful};
 
-use crate::course::Course;
-use crate::pv_bare_race::PvBareRace;
+use crate::bare_race::BareRace;
 use lk_domain::{LockId, Plan};
-use lk_names::{Format, Kind, List, Memory, Mode, Topology};
+use lk_names::{Format, List, Memory, Topology};
 use lk_pvdomain::PvPlan;
 use std::alloc::Global;
 
@@ -32,27 +31,26 @@ pub fn two_sockets(alloc: Global, threads: u32) -> Result<Topology, Memory>
     Ok(Topology { sockets })
 }
 
-/// A plan with one lock of this kind, and a processor for each thread, on two sockets. The
-/// ledger has no accounts, and no processor may write an entry.
+/// A plan with the lock of a race, and a processor for each thread, on two sockets. The ledger has no accounts, and no processor may write an entry.
 ///
 /// # Errors
 ///
 /// There is not enough memory.
-pub fn plan_of(alloc: Global, mode: Mode, kind: Kind, course: &Course) -> Result<Plan, Memory>
-    requires awake { halts mode ≡ false }
+pub fn plan_of(alloc: Global, race: &BareRace) -> Result<Plan, Memory>
+    requires awake { halts race.now.mode ≡ false }
     ensures lawful { IfOk result (λ plan. IsLawfulPlan plan) }
-    ensures cpus { IfOk result (λ plan. cpus_of plan ≡ course.now.threads) }
+    ensures cpus { IfOk result (λ plan. cpus_of plan ≡ race.now.course.threads) }
     ensures locks { IfOk result (λ plan. locks_of plan ≡ 1) }
-    ensures kind { IfOk result (λ plan. kind_at plan 0 ≡ kind) }
+    ensures kind { IfOk result (λ plan. kind_at plan 0 ≡ race.now.kind) }
 {
     Ok(Plan {
         format: Format::One,
-        mode,
-        topology: two_sockets(alloc, course.threads)?,
+        mode: race.mode,
+        topology: two_sockets(alloc, race.course.threads)?,
         threshold: THRESHOLD,
-        locks: List::filled(alloc, kind, 1)?,
+        locks: List::filled(alloc, race.kind, 1)?,
         balances: List::new(alloc, 0)?,
-        shares: List::filled(alloc, 0, course.threads as usize)?,
+        shares: List::filled(alloc, 0, race.course.threads as usize)?,
         cells: None,
     })
 }
@@ -63,7 +61,7 @@ pub fn plan_of(alloc: Global, mode: Mode, kind: Kind, course: &Course) -> Result
 /// # Errors
 ///
 /// There is not enough memory.
-pub fn pv_plan_of(alloc: Global, race: &PvBareRace) -> Result<PvPlan, Memory>
+pub fn pv_plan_of(alloc: Global, race: &BareRace) -> Result<PvPlan, Memory>
     ensures lawful { IfOk result (λ plan. IsLawful plan) }
     ensures cpus { IfOk result (λ plan. length plan.shares.items ≡ race.now.course.threads) }
     ensures locks { IfOk result (λ plan. plan.locks ≡ 1) }

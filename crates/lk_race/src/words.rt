@@ -5,7 +5,6 @@ ghost use Rattle.lk_law.specs.Agree.{halts};
 use crate::bare_race::BareRace;
 use crate::course::Course;
 use crate::mutex_race::MutexRace;
-use crate::pv_bare_race::PvBareRace;
 use crate::rw_race::RwRace;
 use crate::spin_race::{Size, SpinRace};
 use lk_names::{Kind, Mode};
@@ -25,8 +24,6 @@ pub enum Asked {
     Mutex(MutexRace),
     /// A race for a reader-writer lock with a value.
     Rw(RwRace),
-    /// A race for a lock whose waiters halt, with nothing under it.
-    PvBare(PvBareRace),
 }
 
 // The mode that a word names, if waiters of that mode spin.
@@ -67,7 +64,12 @@ fn halting(kind: &str, spins: Option<u16>, course: Course) -> Option<Asked> {
         return None;
     }
     if kind == "bare" {
-        return Some(Asked::PvBare(PvBareRace { spins, course }));
+        return Some(Asked::Bare(BareRace {
+            mode: Mode::Pv,
+            kind: Kind::Spin,
+            spins,
+            course,
+        }));
     }
     let size = size_of(kind)?;
     Some(Asked::Spin(SpinRace {
@@ -86,7 +88,12 @@ fn spinning(mode: &str, kind: &str, course: Course) -> Option<Asked> {
     }
     if let Some(kind) = bare_kind_of(kind) {
         let mode = mode_of(mode)?;
-        return Some(Asked::Bare(BareRace { mode, kind, course }));
+        return Some(Asked::Bare(BareRace {
+            mode,
+            kind,
+            spins: SPINS,
+            course,
+        }));
     }
     let size = size_of(kind)?;
     if mode == "mutex" {

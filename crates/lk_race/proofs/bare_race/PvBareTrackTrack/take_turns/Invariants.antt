@@ -1,6 +1,6 @@
 use Rattle.std.proofs.Common.{◌≡◌}
 use Rattle.lk_lock.specs.Standing.{Rests}
-use Rattle.lk_race.proofs.pv_bare_race.PvBareTrackTrack.take_turns.Given as goal
+use Rattle.lk_race.proofs.bare_race.PvBareTrackTrack.take_turns.Given as goal
 
 -- between two turns the processor rests
 abbrev pub invariant-loop : goal.invariant-loop

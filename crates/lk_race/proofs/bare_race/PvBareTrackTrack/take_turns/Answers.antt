@@ -5,7 +5,7 @@ use Rattle.lk_lock.specs.Standing.{TakesLock}
 use Rattle.lk_lock.proofs.HaltingSteps.{pv_frees, pv_takes}
 use Rattle.lk_lock.proofs.Resting.{holds_none, rests_again}
 use Rattle.lk_lock.proofs.Steps.{is_held, none_out}
-use Rattle.lk_race.proofs.pv_bare_race.PvBareTrackTrack.take_turns.Goals as goal
+use Rattle.lk_race.proofs.bare_race.PvBareTrackTrack.take_turns.Goals as goal
 
 pub pv_unlock-requires-clause-held : goal.pv_unlock-requires-clause-held
 pv_unlock-requires-clause-held g c =
