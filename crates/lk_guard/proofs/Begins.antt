@@ -74,7 +74,7 @@ module _ (d : Domain) (a b : Cpu) (before after : Option ℕ) (idle : IsIdle a) 
 -- a processor that is the same as before, and idle, is one of the domain
 pub stays : (d : Domain) (a b : Cpu) → IsOf a d → IsSame a b → IsIdle b → Stays (crew_of d) a b
 stays d a b of same idle = record {
-  same = λ i. record { table = same.table i; id = same.id i; number = same.number i; who = same.who i };
+  same = same;
   ready = (
     record {
       table = same.table ∙ of.table;
@@ -85,3 +85,7 @@ stays d a b of same idle = record {
     idle,
   );
 }
+
+-- what is the same after two steps
+pub same_as : (a b c : Cpu) → IsSame b c → IsSame a b → IsSame a c
+same_as a b c next first = record { table = next.table ∙ first.table; id = next.id ∙ first.id; number = next.number ∙ first.number; who = next.who ∙ first.who }

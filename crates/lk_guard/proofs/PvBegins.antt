@@ -64,6 +64,6 @@ module _ (d : PvDomain) where
 -- a processor that is the same as before, and free, is one of the domain
 pub pv_stays : (d : PvDomain) (a b : Cpu) → IsOf a d → IsSame a b → IsFree b → Stays (pv_crew_of d) a b
 pv_stays d a b of same free = record {
-  same = λ i. record { table = same.table i; id = same.id i; number = same.number i; who = same.who i };
+  same = same;
   ready = (same_of d a b same of, free);
 }

@@ -70,13 +70,7 @@ impl PvRegion {
 }
 
 impl Guarded for PvRegion {
-    type Cpu = PvCpu;
-
     ghost crew = { λ region. pv_crew_of region.domain };
-
-    fn number(&self, cpu: &PvCpu) -> u32 {
-        cpu.number()
-    }
 
     #[tactic(auto, using(crate::proofs::PvBegins::pv_stays))]
     fn write<R: Wait>(&self, cpu: &mut PvCpu, rt: &R, number: u32, job: Job) -> Reply {

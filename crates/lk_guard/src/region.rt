@@ -107,13 +107,7 @@ impl Region {
 }
 
 impl Guarded for Region {
-    type Cpu = Cpu;
-
     ghost crew = { λ region. crew_of region.domain };
-
-    fn number(&self, cpu: &Cpu) -> u32 {
-        cpu.number()
-    }
 
     #[tactic(auto, using(crate::proofs::Begins::stays))]
     fn write<R: Wait>(&self, cpu: &mut Cpu, rt: &R, number: u32, job: Job) -> Reply {

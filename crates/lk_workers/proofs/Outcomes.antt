@@ -10,10 +10,12 @@ use Rattle.lk_names.specs.declared.ledger.Job.{Job}
 use Rattle.lk_names.specs.declared.ledger.Seen.{Seen}
 use Rattle.lk_names.specs.Workload.{Workload, jobs_of, workers_of}
 use Rattle.lk_names.specs.Outcome.{IsFresh, IsMerge, IsOutcome, IsReadAt, label_of, writes_from}
-use Rattle.lk_domain.specs.Ends.{In, IsFinalOf, past_at}
+use Rattle.lk_domain.specs.Ends.{In, IsFinal, past_at}
 use Rattle.lk_domain.specs.Keeps.{AreEnded, IsPast}
 use Rattle.lk_domain.specs.Ledgers.{Ledger, Look, with_share}
 use Rattle.lk_domain.specs.Places.{places}
+use Rattle.lk_domain.specs.Seats.{ledger_of}
+use Rattle.lk_domain.specs.declared.cpu.Cpu.{Cpu}
 use Rattle.lk_domain.specs.declared.plan.Plan.{Plan}
 use Rattle.lk_guard.specs.Idle.{Crew}
 use Rattle.lk_guard.specs.Deeds.{Deed, AreDeeds, Worked, records_of, reads_in, writes_in}
@@ -69,15 +71,15 @@ get_itself (w ∷ ws) zero d = refl
 get_itself (w ∷ ws) (suc i) d = get_itself ws i d
 
 -- workers of a crew, by what its processors know and by their records
-module _ {C : Type 0} (crew : Crew C) (work : Workload) (of : IsFor work crew.plan) (js : List Entry) (ws : List (Worker C)) (many : length ws ≡ workers_of work)
-    (each : (i : ℕ) (d : Worker C) → i < length ws → Told crew.plan js i (jobs_of work i) (crew.ledger (cpu_of (get_or ws i d))) (records_in (get_or ws i d))) where
-  abbrev pub looks_of : C → List Look
-  looks_of c = (crew.ledger c).looks
+module _ (crew : Crew) (work : Workload) (of : IsFor work crew.plan) (js : List Entry) (ws : List Worker) (many : length ws ≡ workers_of work)
+    (each : (i : ℕ) (d : Worker) → i < length ws → Told crew.plan js i (jobs_of work i) (ledger_of (cpu_of (get_or ws i d))) (records_in (get_or ws i d))) where
+  abbrev pub looks_of : Cpu → List Look
+  looks_of c = (ledger_of c).looks
 
-  told_at : (i : ℕ) (below : i < workers_of work) → (w : Worker C) × (i < length ws) × Told crew.plan js i (jobs_of work i) (crew.ledger (cpu_of (get_or ws i w))) (records_in (get_or ws i w))
+  told_at : (i : ℕ) (below : i < workers_of work) → (w : Worker) × (i < length ws) × Told crew.plan js i (jobs_of work i) (ledger_of (cpu_of (get_or ws i w))) (records_in (get_or ws i w))
   told_at i below = let within : i < length ws = omega (arith, below, many) in (one_of ws i within, within, each i (one_of ws i within) within)
 
-  notes : (i : ℕ) (d : Worker C) → i < length ws → Notes records_in (0 + i) (jobs_of work i) (get_or ws i d)
+  notes : (i : ℕ) (d : Worker) → i < length ws → Notes records_in (0 + i) (jobs_of work i) (get_or ws i d)
   notes i d within =
       let t = each i d within in
       let h : Guard = guard_in crew.plan in
@@ -97,12 +99,12 @@ module _ {C : Type 0} (crew : Crew C) (work : Workload) (of : IsFor work crew.pl
       (cases_lt worker (workers_of work))
 
   -- a record of a worker has seen what it should
-  fresh_of : (r : Seen) (i : ℕ) (w : Worker C) → i < length ws → get_or ws i w ≡ w → In r (records_in w) → IsFresh js (flat_map records_in ws) r
+  fresh_of : (r : Seen) (i : ℕ) (w : Worker) → i < length ws → get_or ws i w ≡ w → In r (records_in w) → IsFresh js (flat_map records_in ws) r
   fresh_of r i w within is mine =
       let h : Guard = guard_in crew.plan in
       let jobs = jobs_of work i in
-      let t : Told crew.plan js i jobs (crew.ledger (cpu_of w)) (records_in w) =
-      subst (λ (v : Worker C). Told crew.plan js i jobs (crew.ledger (cpu_of v)) (records_in v)) is (each i w within) in
+      let t : Told crew.plan js i jobs (ledger_of (cpu_of w)) (records_in w) =
+      subst (λ (v : Worker). Told crew.plan js i jobs (ledger_of (cpu_of v)) (records_in v)) is (each i w within) in
       let here = subst (In r) t.records mine in
       let by : r.worker ≡ i = deeds.record_worker h i 1 jobs t.start t.done r t.are here in
       let place : (k : ℕ) (e : Entry) → _ → e.worker ≡ r.worker → In (k, e) (placed t.done) = λ k e at same.
@@ -115,7 +117,7 @@ module _ {C : Type 0} (crew : Crew C) (work : Workload) (of : IsFor work crew.pl
             let other = each from.0 w from.1 in
             let theirs : s.worker ≡ from.0 = deeds.record_worker h from.0 1 (jobs_of work from.0) other.start other.done s other.are (subst (In s) other.records (from.2 w)) in
             let one : from.0 ≡ i = sym theirs ∙ (same ∙ by) in
-            let in_w : In s (records_in w) = subst (λ (v : Worker C). In s (records_in v)) (ap (λ (j : ℕ). get_or ws j w) one ∙ is) (from.2 w) in
+            let in_w : In s (records_in w) = subst (λ (v : Worker). In s (records_in v)) (ap (λ (j : ℕ). get_or ws j w) one ∙ is) (from.2 w) in
             deeds.fresh_record h i 1 jobs t.start t.done r s t.are here (subst (In s) t.records in_w) less;
       }
 
@@ -127,7 +129,7 @@ module _ {C : Type 0} (crew : Crew C) (work : Workload) (of : IsFor work crew.pl
       let t = each i w from.1 in
       subst (λ (bs : List ℕ). IsReadAt bs js r) (ap (λ (h : Guard). h.opening) of.guard) (deeds.reads_right crew.plan js i 1 (jobs_of work i) t.start t.done r t.are t.ended (subst (In r) t.records (from.2 w)))
 
-  pub outcome : (cpus : List C) (closing : List ℕ) → cpus ≡ map cpu_of ws → IsFinalOf crew.ledger crew.plan cpus js → closing ≡ balances_after crew.plan.balances.items js → IsOutcome work js (flat_map records_in ws) closing
+  pub outcome : (cpus : List Cpu) (closing : List ℕ) → cpus ≡ map cpu_of ws → IsFinal crew.plan cpus js → closing ≡ balances_after crew.plan.balances.items js → IsOutcome work js (flat_map records_in ws) closing
   outcome cpus closing are final sums = record {
     replays = subst (λ (bs : List ℕ). Replays bs js) (ap (λ (h : Guard). h.opening) of.guard) final.replays;
     merge = merged (λ q past. final.none q (omega (arith, past, ap length are, length-map ws cpu_of)));
@@ -141,7 +143,7 @@ module _ {C : Type 0} (crew : Crew C) (work : Workload) (of : IsFor work crew.pl
   }
 
   -- the looks of one worker
-  looks_at : (i : ℕ) (w : Worker C) → i < length ws → AreLooksOf (guard_in crew.plan) i (jobs_of work i) (records_by i (flat_map records_in ws)) (looks_of (cpu_of (get_or ws i w)))
+  looks_at : (i : ℕ) (w : Worker) → i < length ws → AreLooksOf (guard_in crew.plan) i (jobs_of work i) (records_by i (flat_map records_in ws)) (looks_of (cpu_of (get_or ws i w)))
   looks_at i w within =
       let h : Guard = guard_in crew.plan in
       let jobs = jobs_of work i in
@@ -154,34 +156,34 @@ module _ {C : Type 0} (crew : Crew C) (work : Workload) (of : IsFor work crew.pl
         twice = deeds.others_twice h i 1 jobs t.start t.done t.are;
       }))
 
-  pub under_lock : (cpus : List C) → cpus ≡ map cpu_of ws → UnderLock work (flat_map records_in ws) (map looks_of cpus)
+  pub under_lock : (cpus : List Cpu) → cpus ≡ map cpu_of ws → UnderLock work (flat_map records_in ws) (map looks_of cpus)
   under_lock cpus are = record {
     each = length-map cpus looks_of ∙ (ap length are ∙ (length-map ws cpu_of ∙ many));
     looks_are = λ i below.
         let found = told_at i below in
-        let shown : get_or (map looks_of cpus) i [] ≡ looks_of (cpu_of (get_or ws i found.0)) = ap (λ (cs : List C). get_or (map looks_of cs) i []) are ∙ looks_map ws i found.0 found.1 in
+        let shown : get_or (map looks_of cpus) i [] ≡ looks_of (cpu_of (get_or ws i found.0)) = ap (λ (cs : List Cpu). get_or (map looks_of cs) i []) are ∙ looks_map ws i found.0 found.1 in
         subst (λ (h : Guard). AreLooksOf h i (jobs_of work i) (records_by i (flat_map records_in ws)) (get_or (map looks_of cpus) i [])) of.guard
         (subst (AreLooksOf (guard_in crew.plan) i (jobs_of work i) (records_by i (flat_map records_in ws))) (sym shown) (looks_at i found.0 found.1));
   }
     where
-      looks_map : (l : List (Worker C)) (i : ℕ) (d : Worker C) → i < length l → get_or (map looks_of (map cpu_of l)) i [] ≡ looks_of (cpu_of (get_or l i d))
+      looks_map : (l : List Worker) (i : ℕ) (d : Worker) → i < length l → get_or (map looks_of (map cpu_of l)) i [] ≡ looks_of (cpu_of (get_or l i d))
       looks_map [] i d within = absurd (omega (arith, within))
       looks_map (y ∷ l) zero d within = refl
       looks_map (y ∷ l) (suc i) d within = looks_map l i d (omega (arith, within))
 
 -- each worker has told, after the jobs and the end
-all_told : {C : Type 0} (crew : Crew C) (work : Workload) (js : List Entry) (ws : List (Worker C)) (cpus : List C) → cpus ≡ map cpu_of ws
-    → AreThrough crew work ws → IsFinalOf crew.ledger crew.plan cpus js
-    → (i : ℕ) (w : Worker C) → i < length ws → Told crew.plan js i (jobs_of work i) (crew.ledger (cpu_of (get_or ws i w))) (records_in (get_or ws i w))
-all_told {C} crew work js ws cpus are through final i w within =
-    let here : get_or cpus i (cpu_of w) ≡ cpu_of (get_or ws i w) = ap (λ (cs : List C). get_or cs i (cpu_of w)) are ∙ get_or-map cpu_of ws i w in
+all_told : (crew : Crew) (work : Workload) (js : List Entry) (ws : List Worker) (cpus : List Cpu) → cpus ≡ map cpu_of ws
+    → AreThrough crew work ws → IsFinal crew.plan cpus js
+    → (i : ℕ) (w : Worker) → i < length ws → Told crew.plan js i (jobs_of work i) (ledger_of (cpu_of (get_or ws i w))) (records_in (get_or ws i w))
+all_told crew work js ws cpus are through final i w within =
+    let here : get_or cpus i (cpu_of w) ≡ cpu_of (get_or ws i w) = ap (λ (cs : List Cpu). get_or cs i (cpu_of w)) are ∙ get_or-map cpu_of ws i w in
     let past = final.past i (cpu_of w) (omega (arith, within, ap length are, length-map ws cpu_of)) in
-    told crew.plan (jobs_of work i) js i (crew.ledger (cpu_of (get_or ws i w))) (records_in (get_or ws i w)) (through i w within).worked
-    (subst (λ (c : C). IsPast crew.plan js (past_at i (crew.ledger c))) here past)
+    told crew.plan (jobs_of work i) js i (ledger_of (cpu_of (get_or ws i w))) (records_in (get_or ws i w)) (through i w within).worked
+    (subst (λ (c : Cpu). IsPast crew.plan js (past_at i (ledger_of c))) here past)
 
 -- there are as many records as jobs that read
-all_count : {C : Type 0} (file : List (List Job)) (ws : List (Worker C)) → length ws ≡ length file
-    → ((i : ℕ) (w : Worker C) → i < length ws → length (records_in (get_or ws i w)) ≡ reads_in (get_or file i []))
+all_count : (file : List (List Job)) (ws : List Worker) → length ws ≡ length file
+    → ((i : ℕ) (w : Worker) → i < length ws → length (records_in (get_or ws i w)) ≡ reads_in (get_or file i []))
     → length (all_records ws) ≡ sum_by reads_in file
 all_count [] [] many each = refl
 all_count [] (w ∷ ws) many each = absurd (omega (arith, many))
@@ -190,14 +192,14 @@ all_count (jobs ∷ file) (w ∷ ws) many each =
     omega (arith, each 0 w (omega arith), all_count file ws (omega (arith, many)) (λ i x within. each (suc i) x (omega (arith, within))), length-append (records_in w) (all_records ws), more_reads jobs file)
 
 -- so all records of workers that are through have the room that was taken for them
-pub through_count : {C : Type 0} (crew : Crew C) (work : Workload) (ws : List (Worker C)) → length ws ≡ workers_of work → AreThrough crew work ws
+pub through_count : (crew : Crew) (work : Workload) (ws : List Worker) → length ws ≡ workers_of work → AreThrough crew work ws
     → length (all_records ws) ≡ sum_by reads_in work.jobs
 through_count crew work ws many through = all_count work.jobs ws many (λ i w within.
     let t = (through i w within).worked in
     ap length t.records ∙ deeds.records_count (guard_in crew.plan) i 1 (jobs_of work i) (with_share (writes_in (jobs_of work i))) t.deeds t.are)
 
 -- what comes of a domain that is closed once its workers are through
-pub all_outcome : {C : Type 0} (crew : Crew C) (work : Workload) (ws : List (Worker C)) (cpus : List C) (rs : List Seen) (ended : Ended)
+pub all_outcome : (crew : Crew) (work : Workload) (ws : List Worker) (cpus : List Cpu) (rs : List Seen) (ended : Ended)
     → IsFor work crew.plan → length ws ≡ workers_of work → AreThrough crew work ws → cpus ≡ map cpu_of ws → rs ≡ all_records ws → IsEnd crew cpus ended
     → IsOutcome work (journal_in ended) rs (balances_in ended) × UnderLock work rs (looks_in ended)
 all_outcome crew work ws cpus rs ended of many through are reads end =

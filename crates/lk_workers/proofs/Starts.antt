@@ -17,12 +17,12 @@ use Rattle.lk_domain.specs.Ends.{AllRest}
 use Rattle.lk_domain.specs.Ledgers.{Ledger, with_share}
 use Rattle.lk_domain.specs.Plans.{IsLawfulPlan, IsSamePlan}
 use Rattle.lk_domain.specs.Seated.{HoldsNothing}
-use Rattle.lk_domain.specs.Seats.{AreDealt, view_of}
+use Rattle.lk_domain.specs.Seats.{AreDealt, ledger_of, view_of}
 use Rattle.lk_domain.specs.declared.cpu.Cpu.{Cpu}
 use Rattle.lk_domain.specs.declared.domain.Domain.{Domain}
 use Rattle.lk_domain.specs.declared.plan.Plan.{Plan}
 use Rattle.lk_domain.proofs.Seating.{in_of, of_in}
-use Rattle.lk_guard.specs.Idle.{Being, Crew, Stays, crew_of}
+use Rattle.lk_guard.specs.Idle.{Crew, Stays, crew_of}
 use Rattle.lk_guard.specs.Deeds.{Worked, writes_in}
 use Rattle.lk_guard.specs.Guards.{guard_in}
 use Rattle.lk_law.specs.Agree.{halts}
@@ -77,12 +77,12 @@ rest d cpus all i c within =
     let r = all i c within in
     record { domain_is = in_of (get_or cpus i c) d r.ready.0; number = r.number; who = r.who; frames = r.ready.1.frames; holds = r.ready.1.holds; home = r.ready.1.home }
 
-module _ {C : Type 0} (crew : Crew C) where
+module _ (crew : Crew) where
   -- workers on new processors, with room for their records, are ready
-  pub all_ready : (work : Workload) (cpus : List C) (ws : List (Worker C)) → IsFor work crew.plan → InOrder (IsDealt crew) cpus → map cpu_of ws ≡ cpus
+  pub all_ready : (work : Workload) (cpus : List Cpu) (ws : List Worker) → IsFor work crew.plan → InOrder (IsDealt crew) cpus → map cpu_of ws ≡ cpus
       → map reads_of ws ≡ map no_records work.jobs → AreReady crew work ws
   all_ready work cpus ws of all are room i w within =
-      let here : get_or cpus i (cpu_of w) ≡ cpu_of (get_or ws i w) = ap (λ (cs : List C). get_or cs i (cpu_of w)) (sym are) ∙ get_or-map cpu_of ws i w in
+      let here : get_or cpus i (cpu_of w) ≡ cpu_of (get_or ws i w) = ap (λ (cs : List Cpu). get_or cs i (cpu_of w)) (sym are) ∙ get_or-map cpu_of ws i w in
       let inside : i < length cpus = omega (arith, within, ap length are, length-map ws cpu_of) in
       let new : IsDealt crew i (cpu_of (get_or ws i w)) = subst (IsDealt crew i) here (all i (cpu_of w) inside) in
       let share = ap (λ (ns : List ℕ). get_or ns i 0) of.shares ∙ get_or-map writes_in work.jobs i [] in
@@ -94,28 +94,28 @@ module _ {C : Type 0} (crew : Crew C) where
       }
 
   -- after their jobs the processors rest
-  pub all_rest : (work : Workload) (cpus : List C) (ws : List (Worker C)) → cpus ≡ map cpu_of ws → AreThrough crew work ws → InOrder (Rests crew) cpus
+  pub all_rest : (work : Workload) (cpus : List Cpu) (ws : List Worker) → cpus ≡ map cpu_of ws → AreThrough crew work ws → InOrder (Rests crew) cpus
   all_rest work cpus ws are through i c within =
       at_list ws (λ w below. (through i w below).rests) are (omega (arith, within, ap length are, length-map ws cpu_of))
     where
-      at_list : (l : List (Worker C)) → ((w : Worker C) → i < length l → Rests crew i (get_or l i w).cpu) → cpus ≡ map cpu_of l → i < length l → Rests crew i (get_or cpus i c)
+      at_list : (l : List Worker) → ((w : Worker) → i < length l → Rests crew i (get_or l i w).cpu) → cpus ≡ map cpu_of l → i < length l → Rests crew i (get_or cpus i c)
       at_list [] each same below = absurd (omega (arith, below))
       at_list (y ∷ l) each same below =
-          subst (Rests crew i) (sym (ap (λ (cs : List C). get_or cs i c) same ∙ get_or_map_within cpu_of (y ∷ l) i y c below)) (each y below)
+          subst (Rests crew i) (sym (ap (λ (cs : List Cpu). get_or cs i c) same ∙ get_or_map_within cpu_of (y ∷ l) i y c below)) (each y below)
 
   -- a worker that was ready is through after its jobs
-  pub is_through : (jobs all : List Job) (i : ℕ) (old new : Worker C) → all ≡ jobs → IsReady crew jobs i old → Stays crew old.cpu new.cpu
-      → Worked (guard_in crew.plan) (crew.being old.cpu).number all (crew.ledger old.cpu) (crew.ledger new.cpu) old.reads.items new.reads.items → IsThrough crew jobs i new
+  pub is_through : (jobs all : List Job) (i : ℕ) (old new : Worker) → all ≡ jobs → IsReady crew jobs i old → Stays crew old.cpu new.cpu
+      → Worked (guard_in crew.plan) old.cpu.number all (ledger_of old.cpu) (ledger_of new.cpu) old.reads.items new.reads.items → IsThrough crew jobs i new
   is_through jobs all i old new these ready stays worked = record {
     rests = record {
       ready = stays.ready;
-      number = ap (λ (b : Being). b.number) stays.same ∙ ready.rests.number;
-      who = ap (λ (b : Being). b.who) stays.same ∙ ready.rests.who;
+      number = stays.same.number ∙ ready.rests.number;
+      who = stays.same.who ∙ ready.rests.who;
     };
-    worked = subst (λ (js : List Job). Worked (guard_in crew.plan) i js (with_share (writes_in jobs)) (crew.ledger new.cpu) [] new.reads.items) these
-        (subst (λ (n : ℕ). Worked (guard_in crew.plan) n all (with_share (writes_in jobs)) (crew.ledger new.cpu) [] new.reads.items) ready.rests.number
-        (subst (λ (g : Ledger). Worked (guard_in crew.plan) (crew.being old.cpu).number all g (crew.ledger new.cpu) [] new.reads.items) ready.ledger
-        (subst (λ (rs : List Seen). Worked (guard_in crew.plan) (crew.being old.cpu).number all (crew.ledger old.cpu) (crew.ledger new.cpu) rs new.reads.items)
+    worked = subst (λ (js : List Job). Worked (guard_in crew.plan) i js (with_share (writes_in jobs)) (ledger_of new.cpu) [] new.reads.items) these
+        (subst (λ (n : ℕ). Worked (guard_in crew.plan) n all (with_share (writes_in jobs)) (ledger_of new.cpu) [] new.reads.items) ready.rests.number
+        (subst (λ (g : Ledger). Worked (guard_in crew.plan) old.cpu.number all g (ledger_of new.cpu) [] new.reads.items) ready.ledger
+        (subst (λ (rs : List Seen). Worked (guard_in crew.plan) old.cpu.number all (ledger_of old.cpu) (ledger_of new.cpu) rs new.reads.items)
         (ap (λ (l : ListOf Seen). l.items) ready.reads) worked)));
   }
 

@@ -5,10 +5,11 @@ use Rattle.lk_names.specs.declared.ledger.Entry.{Entry}
 use Rattle.lk_names.specs.declared.names.Kind.{Kind}
 use Rattle.lk_names.specs.declared.names.Mode.{Mode}
 use Rattle.lk_names.specs.declared.names.Mode.TheVariants as mode
-use Rattle.lk_domain.specs.Ends.{IsFinalOf}
+use Rattle.lk_domain.specs.Ends.{IsFinal}
 use Rattle.lk_domain.specs.Ledgers.{Look}
 use Rattle.lk_domain.specs.Plans.{kind_at}
 use Rattle.lk_domain.specs.Seats.{ledger_of}
+use Rattle.lk_domain.specs.declared.cpu.Cpu.{Cpu}
 use Rattle.lk_guard.specs.Idle.{Crew}
 use Rattle.lk_workers.specs.declared.ended.Ended.{Ended}
 use Rattle.lk_workers.specs.declared.ended.Ended.TheVariants.{Queued, Pv}
@@ -33,8 +34,8 @@ IsEndOf m guard (Queued closed) = (m ≢ mode.Pv) × (closed.mode ≡ m) × (clo
 IsEndOf m guard (Pv closed) = m ≡ mode.Pv
 
 -- it is that of a domain that is closed with these processors
-pub record IsEnd {C : Type 0} (crew : Crew C) (cpus : List C) (ended : Ended) : Type 0 where
-  pub final : IsFinalOf crew.ledger crew.plan cpus (journal_in ended)
+pub record IsEnd (crew : Crew) (cpus : List Cpu) (ended : Ended) : Type 0 where
+  pub final : IsFinal crew.plan cpus (journal_in ended)
   pub balances : balances_in ended ≡ balances_after crew.plan.balances.items (journal_in ended)
-  pub looks : looks_in ended ≡ map (λ cpu. (crew.ledger cpu).looks) cpus
+  pub looks : looks_in ended ≡ map (λ cpu. (ledger_of cpu).looks) cpus
   pub of : IsEndOf crew.plan.mode (kind_at crew.plan 0) ended

@@ -7,7 +7,9 @@ use Rattle.lk_names.specs.declared.ledger.Seen.{Seen}
 use Rattle.lk_names.specs.Workload.{Workload, jobs_of}
 use Rattle.lk_domain.specs.Ledgers.{with_share}
 use Rattle.lk_domain.specs.Plans.{share_of}
+use Rattle.lk_domain.specs.Seats.{ledger_of}
 use Rattle.lk_domain.specs.Views.{newcomer}
+use Rattle.lk_domain.specs.declared.cpu.Cpu.{Cpu}
 use Rattle.lk_guard.specs.Idle.{Crew}
 use Rattle.lk_guard.specs.Deeds.{Worked, reads_in, writes_in}
 use Rattle.lk_guard.specs.Guards.{guard_in}
@@ -15,17 +17,17 @@ use Rattle.lk_workers.specs.declared.worker.Worker.{Worker}
 
 -- parts of a worker
 
-abbrev pub cpu_of : {C : Type 0} → Worker C → C
+abbrev pub cpu_of : Worker → Cpu
 cpu_of worker = worker.cpu
 
-abbrev pub reads_of : {C : Type 0} → Worker C → ListOf Seen
+abbrev pub reads_of : Worker → ListOf Seen
 reads_of worker = worker.reads
 
-abbrev pub records_in : {C : Type 0} → Worker C → List Seen
+abbrev pub records_in : Worker → List Seen
 records_in worker = worker.reads.items
 
 -- the records of all workers, one worker after another
-abbrev pub all_records : {C : Type 0} → List (Worker C) → List Seen
+abbrev pub all_records : List Worker → List Seen
 all_records workers = flat_map records_in workers
 
 -- an empty list with room for a record of each job that reads
@@ -37,32 +39,32 @@ abbrev pub InOrder : {A : Type 0} → (ℕ → A → Type 0) → List A → Type
 InOrder is xs = (i : ℕ) (d : _) → i < length xs → is i (slice_index_or xs i d)
 
 -- the processor i of its domain, which is ready
-pub record Rests {C : Type 0} (crew : Crew C) (i : ℕ) (cpu : C) : Type 0 where
+pub record Rests (crew : Crew) (i : ℕ) (cpu : Cpu) : Type 0 where
   pub ready : crew.ready cpu
-  pub number : (crew.being cpu).number ≡ i
-  pub who : (crew.being cpu).who ≡ newcomer crew.plan i
+  pub number : cpu.number ≡ i
+  pub who : cpu.seat.me.0.who ≡ newcomer crew.plan i
 
 -- a new domain gave it this number, and its share
-pub record IsDealt {C : Type 0} (crew : Crew C) (i : ℕ) (cpu : C) : Type 0 where
+pub record IsDealt (crew : Crew) (i : ℕ) (cpu : Cpu) : Type 0 where
   pub rests : Rests crew i cpu
-  pub ledger : crew.ledger cpu ≡ with_share (share_of crew.plan i)
+  pub ledger : ledger_of cpu ≡ with_share (share_of crew.plan i)
 
 -- The worker i before its jobs: its processor may write an entry for each that writes, and its list
 -- has room for a record of each that reads.
-pub record IsReady {C : Type 0} (crew : Crew C) (jobs : List Job) (i : ℕ) (worker : Worker C) : Type 0 where
+pub record IsReady (crew : Crew) (jobs : List Job) (i : ℕ) (worker : Worker) : Type 0 where
   pub rests : Rests crew i worker.cpu
-  pub ledger : crew.ledger worker.cpu ≡ with_share (writes_in jobs)
+  pub ledger : ledger_of worker.cpu ≡ with_share (writes_in jobs)
   pub reads : worker.reads ≡ no_records jobs
 
 -- the worker i after its jobs, which it did in order
-pub record IsThrough {C : Type 0} (crew : Crew C) (jobs : List Job) (i : ℕ) (worker : Worker C) : Type 0 where
+pub record IsThrough (crew : Crew) (jobs : List Job) (i : ℕ) (worker : Worker) : Type 0 where
   pub rests : Rests crew i worker.cpu
   pub worked : Worked (guard_in crew.plan) i jobs (with_share (writes_in jobs))
-      (crew.ledger worker.cpu) [] worker.reads.items
+      (ledger_of worker.cpu) [] worker.reads.items
 
 -- each worker is so, in order of their numbers
-abbrev pub AreReady : {C : Type 0} → Crew C → Workload → List (Worker C) → Type 0
+abbrev pub AreReady : Crew → Workload → List Worker → Type 0
 AreReady crew work workers = InOrder (λ i. IsReady crew (jobs_of work i) i) workers
 
-abbrev pub AreThrough : {C : Type 0} → Crew C → Workload → List (Worker C) → Type 0
+abbrev pub AreThrough : Crew → Workload → List Worker → Type 0
 AreThrough crew work workers = InOrder (λ i. IsThrough crew (jobs_of work i) i) workers

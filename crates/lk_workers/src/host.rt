@@ -24,7 +24,7 @@ pub(crate) trait Host: Guarded + Drop + Sync {
     ghost hosts: { Mode → Type 0 };
 
     /// A region at rest for the file, and its processors.
-    fn make(alloc: Global, file: &JobFile) -> Result<(Self, List<Self::Cpu>), Memory>
+    fn make(alloc: Global, file: &JobFile) -> Result<(Self, List<Cpu>), Memory>
         requires lawful { IsLawful (workload_of file.now) }
         requires mode { hosts file.now.mode }
         ensures suits { IfOk result
@@ -34,7 +34,7 @@ pub(crate) trait Host: Guarded + Drop + Sync {
         ensures dealt { IfOk result (λ made. InOrder (IsDealt (Self.crew made.0)) made.1.items) };
 
     /// Closes its domain, with all processors.
-    fn end(self, alloc: Global, cpus: List<Self::Cpu>) -> Result<Ended, Memory>
+    fn end(self, alloc: Global, cpus: List<Cpu>) -> Result<Ended, Memory>
         requires mode { hosts (Self.crew self).plan.mode }
         requires all { length cpus.items ≡ cpus_of (Self.crew self).plan }
         requires rest { InOrder (Rests (Self.crew self)) cpus.items }

@@ -9,7 +9,7 @@ ghost use Rattle.lk_workers.specs.Workers.{cpu_of, no_records, reads_of};
 
 use crate::counts::{count_reads, entry_counts};
 use crate::worker::Worker;
-use lk_domain::Plan;
+use lk_domain::{Cpu, Plan};
 use lk_names::{JobFile, List, Memory, Topology};
 use lk_pvdomain::PvPlan;
 use std::alloc::Global;
@@ -60,11 +60,11 @@ pub(crate) fn pv_plan_of(alloc: Global, file: &JobFile) -> Result<PvPlan, Memory
 }
 
 // A worker on each processor, with room for its records.
-pub(crate) fn hire<C: Drop>(
+pub(crate) fn hire(
     alloc: Global,
-    mut cpus: List<C>,
+    mut cpus: List<Cpu>,
     file: &JobFile,
-) -> Result<List<Worker<C>>, Memory>
+) -> Result<List<Worker>, Memory>
     requires { length cpus.items ≡ workers_of (workload_of file.now) }
     ensures each { IfOk result
         (λ workers. length workers.items ≡ workers_of (workload_of file.now)) }

@@ -11,6 +11,7 @@ use crate::ended::Ended;
 use crate::host::Host;
 use crate::making::hire;
 use crate::worker::{Worker, run_all};
+use lk_domain::Cpu;
 use lk_guard::{Gate, PvRegion, Region};
 use lk_names::{JobFile, List, Memory, Mode, Seen};
 use std::alloc::Global;
@@ -37,7 +38,7 @@ fn append(all: &mut List<Seen>, reads: &[Seen])
 }
 
 // The processors of the workers, and all their records, into lists that have the room.
-fn gather<C: Drop>(mut workers: List<Worker<C>>, cpus: &mut List<C>, reads: &mut List<Seen>)
+fn gather(mut workers: List<Worker>, cpus: &mut List<Cpu>, reads: &mut List<Seen>)
     requires cpus { cpus.old ≡ record { items = []; room = length workers.items } }
     requires reads { reads.old ≡ record { items = []; room = length (all_records workers.items) } }
     ensures cpus { cpus.new.items ≡ map cpu_of workers.items }

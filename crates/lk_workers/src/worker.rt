@@ -4,22 +4,23 @@ ghost use Rattle.lk_names.specs.Workload.{jobs_of, workers_of, workload_of};
 ghost use Rattle.lk_workers.specs.Plans.{IsFor};
 ghost use Rattle.lk_workers.specs.Workers.{AreReady, AreThrough, IsReady, IsThrough};
 
+use lk_domain::Cpu;
 use lk_guard::{Gate, Guarded};
 use lk_names::{JobFile, List, Seen};
 use std::sync::Wait;
 use std::thread;
 use std::thread::Threads;
 
-/// A processor, of whichever family, and the records of what was read on it.
+/// A processor, and the records of what was read on it.
 #[derive(Drop)]
-pub(crate) struct Worker<C> {
-    pub(crate) cpu: C,
+pub(crate) struct Worker {
+    pub(crate) cpu: Cpu,
     pub(crate) reads: List<Seen>,
 }
 
-impl<C> Worker<C> {
+impl Worker {
     // Does the jobs of the worker of this number.
-    fn work<D: Guarded<Cpu = C>, G: Gate, R: Wait>(
+    fn work<D: Guarded, G: Gate, R: Wait>(
         &mut self,
         rt: &R,
         region: &D,
@@ -45,7 +46,7 @@ pub(crate) fn run_all<D: Guarded + Sync, G: Gate, R: Threads + Wait + Sync>(
     region: &D,
     file: &JobFile,
     gate: &G,
-    workers: &mut List<Worker<D::Cpu>>,
+    workers: &mut List<Worker>,
 )
     requires suits { IsFor (workload_of file.now) (D.crew region.now).plan }
     requires each { length workers.old.items ≡ workers_of (workload_of file.now) }
@@ -58,7 +59,7 @@ pub(crate) fn run_all<D: Guarded + Sync, G: Gate, R: Threads + Wait + Sync>(
         rt,
         workers.as_mut_slice(),
         count,
-        &|index: usize, worker: &mut Worker<D::Cpu>|
+        &|index: usize, worker: &mut Worker|
             requires { IsFor (workload_of file.now) (D.crew region.now).plan
                 × (index < workers_of (workload_of file.now))
                 × IsReady (D.crew region.now) (jobs_of (workload_of file.now) index) index

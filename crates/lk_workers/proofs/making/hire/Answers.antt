@@ -5,7 +5,7 @@ use Rattle.lk_workers.specs.Workers.{cpu_of, no_records, reads_of}
 use Rattle.lk_workers.proofs.making.hire.Goals as goal
 
 pub pop_front-cpu-requires : goal.pop_front-cpu-requires
-pop_front-cpu-requires g c =
+pop_front-cpu-requires c =
     let l = c.loop-jobs in
     let all = c.args.file.now.jobs.items in
     let hired = l.workers.items in
@@ -25,7 +25,7 @@ pop_front-cpu-requires g c =
     )
 
 pub returns-clause-cpus : goal.returns-clause-cpus
-returns-clause-cpus g c =
+returns-clause-cpus c =
     let l = c.loop-jobs in
     let all = c.args.file.now.jobs.items in
     let hired = l.workers.items in
@@ -45,7 +45,7 @@ returns-clause-cpus g c =
     sym (append-nil (map cpu_of hired)) ∙ (ap (λ rest. map cpu_of hired ++ rest) (sym none) ∙ l.invariant.cpus)
 
 pub returns-clause-reads : goal.returns-clause-reads
-returns-clause-reads g c =
+returns-clause-reads c =
     let all = c.args.file.now.jobs.items in
     let past : length all ≤ c.loop-jobs.jobs-index = omega (arith, c.loop-jobs-test.false, ap length c.as_slice-jobs-items.ensures) in
     c.loop-jobs.invariant.reads ∙ (ap (map _) (take_all c.loop-jobs.jobs-index all past) ∙ sym (map-map no_records (λ js. js.items) all))
