@@ -1,5 +1,5 @@
 // A release: the rows U2 to U5.
-ghost use Rattle.std.specs.Prelude.{◌≡◌, ◌≢◌, ◌<◌, true, false, None, Some};
+ghost use Rattle.std.specs.Prelude.{◌≡◌, ◌≢◌, ◌<◌, ◌%◌, true, false, None, Some};
 ghost use Rattle.lk_word.specs.declared.spin_word.NodeName.{NodeName};
 ghost use Rattle.lk_rows.specs.declared.parts.Pc.TheVariants.{U3};
 ghost use Rattle.lk_rows.specs.declared.setup.Verb.TheVariants.{Unlock};
@@ -52,31 +52,34 @@ pub fn release<R: Wait>(seat: &mut Right, rt: &R, domain: &Domain, lock: u32, me
     wake_next(seat, domain, lock);
 }
 
-// The same, but that the row U2 is tried once more at most. If another part of the word had changed
-// again, nothing has happened.
+/// The same without waiting: the row U2 is tried so many times more at most. If another part of the word
+/// had changed at each of them, nothing has happened. It wakes no thread.
 #[cold]
 #[inline(never)]
-pub(crate) fn try_once(seat: &mut Right, domain: &Domain, lock: u32, met: u64) -> PvRelease
+pub fn try_release(seat: &mut Right, domain: &Domain, lock: u32, met: u64, tries: u32) -> PvRelease
     requires other { met ≢ 1 }
     requires tried { (own : NodeName) × (s : Start) × HasTried domain.now lock own s met seat.old }
     ensures freed { has_freed result ≡ true → (own : NodeName) (s : Start)
         → HasTried domain.now lock own s met seat.old
         → Ended domain.now Unlock lock own s Frees seat.new }
-    ensures still { has_freed result ≡ false → (own : NodeName) (s : Start)
-        → (h : HasTried domain.now lock own s met seat.old) → IsAsItWas h.old seat.new }
+    ensures still { has_freed result ≡ false → (met % 256 ≡ 1) × IsAsItWas seat.old seat.new }
     ensures whom { has_freed result ≡ true → kicked_in seat.new.me.0.calls.last ≡ whom result }
 {
     if low_byte(met) != HELD {
         let kicked = kick_next(seat, domain, lock);
         return PvRelease::Kicked(kicked);
     }
-    let now = tries::try_release(seat, domain, lock, met);
-    if now == met {
-        return PvRelease::Freed;
-    }
-    if low_byte(now) != HELD {
-        let kicked = kick_next(seat, domain, lock);
-        return PvRelease::Kicked(kicked);
+    let mut expected = met;
+    for _ in 0..tries {
+        let now = tries::try_release(seat, domain, lock, expected);
+        if now == expected {
+            return PvRelease::Freed;
+        }
+        if low_byte(now) != HELD {
+            let kicked = kick_next(seat, domain, lock);
+            return PvRelease::Kicked(kicked);
+        }
+        expected = now;
     }
     PvRelease::Still
 }

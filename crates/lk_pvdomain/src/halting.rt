@@ -4,7 +4,7 @@
 //! A call of `lock` is two functions, and a release is two. The first makes one operation, and never
 //! waits. The second goes on where that was not enough, and may wait. So an uncontended turn calls no
 //! function that may wait: a proved program looks at a byte behind each call of one.
-ghost use Rattle.std.specs.Prelude.{◌≡◌, ◌<◌, false, true};
+ghost use Rattle.std.specs.Prelude.{◌≡◌, ◌≢◌, ◌<◌, ◌%◌, false, true};
 ghost use Rattle.lk_rows.specs.declared.parts.Pc.TheVariants.{G1};
 ghost use Rattle.lk_rows.specs.declared.setup.Verb.TheVariants.{Lock, Try, Unlock};
 ghost use Rattle.lk_domain.specs.Calls.{Frees, Unchanged, holds_in};
@@ -13,12 +13,10 @@ ghost use Rattle.lk_domain.specs.Plans.{locks_of};
 ghost use Rattle.lk_pvdomain.specs.PvCalls.{HasTried, IsAsItWas, MayFree};
 ghost use Rattle.lk_pvdomain.specs.PvPaths.{At, Ended, Rests, Start, Took, first_node, first_of};
 ghost use Rattle.lk_pvdomain.specs.PvReleases.{has_freed, kicked_in, whom};
-ghost use Rattle.lk_pvdomain.specs.PvRests.{Comes};
 
 use crate::call::Queued;
-pub use crate::freeing::release;
-use crate::freeing::{self, PvRelease};
-use crate::rest::PvRest;
+use crate::freeing::PvRelease;
+pub use crate::freeing::{release, try_release};
 use crate::tries;
 use lk_domain::{Domain, Right, moves};
 use lk_word::{HELD, NodeName};
@@ -77,7 +75,7 @@ pub fn try_lock(seat: &mut Right, domain: &Domain, lock: u32, cpu: u32) -> bool
 }
 
 /// Begins a release, by one try of the row U2. Returns the word that it met. If that is [`HELD`], the
-/// lock is free. If not, [`release`] goes on ([`pv_unlock`](crate::pv_unlock)).
+/// lock is free. If not, [`release`] goes on ([`pv_unlock`](crate::pv_unlock)), or [`try_release`].
 #[inline]
 pub fn free(seat: &mut Right, domain: &Domain, lock: u32) -> u64
     requires may { (own : NodeName) × MayFree domain.now lock own seat.old }
@@ -85,6 +83,7 @@ pub fn free(seat: &mut Right, domain: &Domain, lock: u32) -> u64
         → Ended domain.now Unlock lock own (first_of Unlock lock seat.old) Frees seat.new }
     ensures tried { (own : NodeName) → Rests domain.now own seat.old
         → HasTried domain.now lock own (first_of Unlock lock seat.old) result seat.new }
+    ensures still { result ≢ 1 → result % 256 ≡ 1 → IsAsItWas seat.old seat.new }
 {
     tries::try_release(seat, domain, lock, HELD)
 }
@@ -103,34 +102,5 @@ pub fn try_unlock(seat: &mut Right, domain: &Domain, lock: u32) -> PvRelease
     if met == HELD {
         return PvRelease::Freed;
     }
-    freeing::try_once(seat, domain, lock, met)
-}
-
-// From G1. It is out of the way of a call that takes a free lock, which builds no `Queued`.
-#[cold]
-#[inline(never)]
-fn begin_slowpath(seat: &mut Right, domain: &Domain, lock: u32, own: NodeName) -> Option<PvRest>
-    requires at { (s : Start) × At domain.now Lock lock own s G1 Any seat.old }
-    ensures comes { (s : Start) → At domain.now Lock lock own s G1 Any seat.old
-        → Comes domain.now lock own result s seat.new }
-{
-    let call = Queued { domain, lock, own };
-    call.contend(seat)
-}
-
-// Begins a call of `lock`, and makes its first turn. Returns where it rests, or none where the
-// processor holds the lock.
-#[inline]
-pub(crate) fn begin(seat: &mut Right, domain: &Domain, lock: u32, cpu: u32) -> Option<PvRest>
-    requires rests { Rests domain.now (first_node cpu) seat.old }
-    requires lock { lock < locks_of domain.now.plan }
-    requires free { holds_in seat.old.me.0.calls.holds lock ≡ false }
-    ensures comes { Comes domain.now lock (first_node cpu) result (first_of Lock lock seat.old)
-        seat.new }
-{
-    if take(seat, domain, lock) {
-        return None;
-    }
-    let own = NodeName { cpu, index: 0 };
-    begin_slowpath(seat, domain, lock, own)
+    try_release(seat, domain, lock, met, 1)
 }

@@ -45,5 +45,5 @@ pub use lk_domain::{
     store as pv_store, version as pv_version,
 };
 pub use plan::PvPlan;
-pub use polled::{pv_begin, pv_poll};
+pub use polled::{pv_begin, pv_poll, pv_settle};
 pub use waiter::{PvTurn, PvWaiter};

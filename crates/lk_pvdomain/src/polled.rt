@@ -1,11 +1,13 @@
 // A call of `pv_lock` in turns, for those that may not wait in a loop of ours, or that decide
 // themselves how a halted processor sleeps.
 ghost use Rattle.std.specs.Prelude.{◌≡◌, ◌<◌, false, None, Some};
+ghost use Rattle.lk_rows.specs.declared.parts.Pc.TheVariants.{G1};
 ghost use Rattle.lk_rows.specs.declared.setup.Verb.TheVariants.{Lock};
 ghost use Rattle.lk_domain.specs.Calls.{holds_in};
+ghost use Rattle.lk_domain.specs.Paths.{Any};
 ghost use Rattle.lk_domain.specs.Plans.{locks_of};
-ghost use Rattle.lk_pvdomain.specs.PvCalls.{HasTaken, HasTakenSince, IsResting};
-ghost use Rattle.lk_pvdomain.specs.PvPaths.{Start, first_of};
+ghost use Rattle.lk_pvdomain.specs.PvCalls.{HasTaken, HasTakenSince, IsResting, own_node};
+ghost use Rattle.lk_pvdomain.specs.PvPaths.{At, Start, first_of};
 ghost use Rattle.lk_pvdomain.specs.PvRests.{is_asleep_at};
 ghost use Rattle.lk_domain.specs.Seats.{IsSame, calls_of};
 ghost use Rattle.lk_pvdomain.specs.PvSeats.{IsOf};
@@ -56,8 +58,42 @@ pub fn pv_begin(cpu: &mut PvCpu, domain: &PvDomain, lock: LockId) -> PvTurn
     ensures waits { (w : PvWaiter) → waiter_in result ≡ Some w
         → Waits domain.now w (first_of Lock lock.index cpu.old.seat) cpu.new }
 {
+    if halting::take(&mut cpu.seat, &domain.domain, lock.index) {
+        return PvTurn::Has;
+    }
+    pv_settle(cpu, domain, lock)
+}
+
+/// Goes on with a call from the row G1, where [`halting::take`] leaves it, to the end of its first
+/// turn. It never waits. It is out of the way of a call that takes a free lock, which builds no
+/// `Queued`.
+#[cold]
+#[inline(never)]
+pub fn pv_settle(cpu: &mut PvCpu, domain: &PvDomain, lock: LockId) -> PvTurn
+    requires domain { IsOf cpu.old domain.now }
+    requires at { (s : Start)
+        × At domain.now.domain Lock lock.index (own_node cpu.old) s G1 Any cpu.old.seat }
+    ensures same { IsSame cpu.old cpu.new }
+    ensures taken { result ≡ Has → (s : Start)
+        → At domain.now.domain Lock lock.index (own_node cpu.old) s G1 Any cpu.old.seat
+        → HasTakenSince domain.now lock.index s cpu.new }
+    ensures halted { (calls_of cpu.new).halted ≡ has_halted result }
+    ensures lock { (w : PvWaiter) → waiter_in result ≡ Some w → w.lock ≡ lock }
+    ensures waits { (w : PvWaiter) → waiter_in result ≡ Some w → (s : Start)
+        → At domain.now.domain Lock lock.index (own_node cpu.old) s G1 Any cpu.old.seat
+        → Waits domain.now w s cpu.new }
+{
     let number = cpu.number();
-    let place = halting::begin(&mut cpu.seat, &domain.domain, lock.index, number);
+    let own = NodeName {
+        cpu: number,
+        index: 0,
+    };
+    let call = Queued {
+        domain: &domain.domain,
+        lock: lock.index,
+        own,
+    };
+    let place = call.contend(&mut cpu.seat);
     turn_of(lock, place)
 }
 

@@ -21,7 +21,7 @@ pub record IsSince (s : Start) (a : Seat Slot View) : Type 0 where
   pub out : a.me.0.ledger.out ≡ s.ledger.out
 
 module _ {d : Domain} {l : ℕ} {own : NodeName} {s : Start} {a : Seat Slot View} where
-  at_row : {c : Pc} {P : Frame → Type 0} → AtOn d Lock l own s c P a.table_id a.id a.me → IsSince s a
+  pub at_row : {c : Pc} {P : Frame → Type 0} → AtOn d Lock l own s c P a.table_id a.id a.me → IsSince s a
   at_row w = record { table = w.table_was; id = w.id_was; who = w.who; slots = w.slots; out = ap (λ (g : Ledger). g.out) w.ledger }
 
   at_halt : {c e : Pc} {P : Frame → Type 0} → HaltedOn d Lock l own s c e P a.table_id a.id a.me → IsSince s a

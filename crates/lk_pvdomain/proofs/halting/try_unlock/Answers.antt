@@ -1,7 +1,7 @@
-use Rattle.std.proofs.Common.{refl}
+use Rattle.std.proofs.Common.{refl, ◌∙◌}
 use Rattle.std.proofs.lemmas.Bool.{true≢false}
 use Rattle.lk_pvdomain.proofs.Names.{Unlock, first_of}
-use Rattle.lk_pvdomain.proofs.ways.Tried.{first_tries_on, with_rests, has_tried, frees, kicks_none}
+use Rattle.lk_pvdomain.proofs.ways.Tried.{first_tries_on, with_rests, has_tried, stays, frees, kicks_none}
 use Rattle.lk_pvdomain.proofs.halting.try_unlock.Goals as goal
 
 pub try_release-met-requires : goal.try_release-met-requires
@@ -17,8 +17,8 @@ returns-then-met-eq-HELD c =
       still = λ is. absurd (true≢false is);
     }
 
-pub try_once-requires : goal.try_once-requires
-try_once-requires c =
+pub try_release-requires : goal.try_release-requires
+try_release-requires c =
     record {
       other = c.if-met-eq-HELD.false;
       tried = (
@@ -32,9 +32,15 @@ pub returns : goal.returns
 unfolding has_tried
 returns c =
     record {
-      freed = λ is own r. c.try_once.ensures.freed is own (first_of Unlock c.args.lock c.args.seat.now)
+      freed = λ is own r. c.try_release.ensures.freed is own (first_of Unlock c.args.lock c.args.seat.now)
           (has_tried (with_rests c.requires.may.1 r) c.try_release-met.ensures.same c.try_release-met.ensures.step);
-      whom = c.try_once.ensures.whom;
-      still = λ is. c.try_once.ensures.still is c.requires.may.0 (first_of Unlock c.args.lock c.args.seat.now)
-          (has_tried c.requires.may.1 c.try_release-met.ensures.same c.try_release-met.ensures.step);
+      whom = c.try_release.ensures.whom;
+      still = λ is.
+          let same = c.try_release-met.ensures.same in
+          let k = c.try_release.ensures.still is in
+          record {
+            table = k.1.table ∙ same.0;
+            id = k.1.id ∙ same.1;
+            me = k.1.me ∙ stays (has_tried c.requires.may.1 same c.try_release-met.ensures.step) c.if-met-eq-HELD.false k.0;
+          };
     }

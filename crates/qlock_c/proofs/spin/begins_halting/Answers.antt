@@ -1,4 +1,0 @@
-use Rattle.qlock_c.proofs.spin.begins_halting.Goals as goal
-
-pub returns : goal.returns
-returns c ok = c.begin.ensures.taken (c.code.ensures ok)

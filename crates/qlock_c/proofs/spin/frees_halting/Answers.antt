@@ -1,4 +1,0 @@
-use Rattle.qlock_c.proofs.spin.frees_halting.Goals as goal
-
-pub returns : goal.returns
-returns c ok = c.unlock.ensures.freed (c.code.ensures ok)
