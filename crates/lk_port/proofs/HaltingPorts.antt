@@ -1,13 +1,14 @@
 -- How a processor stands after a call, where waiters halt.
 use Rattle.std.proofs.Common.{◌≡◌, ℕ, ◌<◌, List, [], ◌∷◌, length, replicate, set, Bool, true, false}
 use Rattle.std.proofs.Common.{refl, sym, ap, ◌∙◌, subst, arith, if◌then◌else◌, ◌&&◌, not}
-use Rattle.std.proofs.Common.{slice_index_or}
+use Rattle.std.proofs.Common.{slice_index_or, slice_get, ◌≢◌, ◌⊎◌, inl, inr, Some}
+use Rattle.atomic_table.specs.Table.{Me}
 use Rattle.std.proofs.lemmas.List.{get_or-replicate, length-replicate, length-set, get_or-set_same}
 use Rattle.std.proofs.lemmas.List.{get_or-set_other}
 use Rattle.std.specs.Arc.{arc_value}
 use Rattle.lk_port.proofs.Names.{true≢false, Spins, Kind, kind_at, locks_of, calls_of, ledger_of}
 use Rattle.lk_port.proofs.Names.{Cpu, Domain, own_node, first_of, domain_of, may_halt, Stands}
-use Rattle.lk_port.proofs.Names.{Pending, Port, Share}
+use Rattle.lk_port.proofs.Names.{Done, Lock, Pending, Share}
 use Rattle.atomic_table.specs.declared.shared.Seat.{Seat}
 use Rattle.lk_word.specs.declared.spin_word.NodeName.{NodeName}
 use Rattle.lk_names.specs.{Names.same_lock, declared.holder.Manner.Manner}
@@ -17,14 +18,18 @@ use Rattle.lk_law.proofs.common.Sames.{same_lock-true}
 use Rattle.lk_domain.specs.{Calls.{Calls, Hold, hold, holds_in, lock_name}, Keeps.Slot}
 use Rattle.lk_domain.specs.{Ledgers.Ledger, Plays.carried_of, Seats.{IsDealt, IsStill}}
 use Rattle.lk_domain.specs.declared.view.View.{View}
-use Rattle.lk_pvdomain.proofs.ways.Frees.{out_kept}
-use Rattle.lk_pvdomain.specs.PvCalls.{HasFreed, HasMissed, IsResting, without}
+use Rattle.lk_names.proofs.Places.{set-slice_get}
+use Rattle.lk_pvdomain.proofs.ways.Frees.{freed_none, freed_others, is_let, out_kept}
+use Rattle.lk_pvdomain.proofs.ways.Kept.{IsKept, let_rests}
+use Rattle.lk_pvdomain.specs.PvCalls.{HasMissed, IsAsItWas, IsResting, without}
 use Rattle.lk_pvdomain.specs.{PvPaths.{Ended, Start, Took, starting}, PvRests.Rests}
 use Rattle.lk_pvdomain.specs.{declared.domain.PvDomain.PvDomain, declared.rest.PvRest.PvRest}
 use Rattle.lk_pvdomain.specs.declared.waiter.PvWaiter.{PvWaiter}
 use Rattle.lk_port.proofs.Ports.{and_left, and_right, apart}
 use Rattle.lk_port.proofs.Shares.{IsHalting, halting, halts_by}
-use Rattle.lk_port.specs.{Asking.MayCall, Ports.{Frees, HasUnlocked, Stays}, Shares.By}
+use Rattle.lk_port.specs.Ports.{HasSettled, IsAsleep, is_turn}
+use Rattle.lk_port.specs.declared.answer.Answer.{Answer}
+use Rattle.lk_port.specs.declared.answer.Answer.TheVariants as answer
 use Rattle.lk_port.specs.Standing.{AreHeld, IsHome, StandsHalting, are_home}
 use Rattle.lk_port.specs.declared.pending.Pending.TheVariants.{Free, Spins, Reads, Writes, Halts}
 use Rattle.lk_domain.specs.Calls as grip
@@ -109,16 +114,6 @@ missed d l a b bs was miss =
       noted = subst (AreHeld (locks_of d.domain.plan) bs) (sym miss.missed.holds) was.noted;
     }
 
-pub freed : (d : PvDomain) (l : ℕ) (a b : Cpu) (bs : List Bool) → IsHome d bs (calls_of a).holds (ledger_of a) → l < locks_of d.domain.plan
-    → HasFreed d l a b → (calls_of b).holds ≡ without (lock_name l) (calls_of a).holds
-    → IsHome d (set bs l false) (calls_of b).holds (ledger_of b)
-freed d l a b bs was low free others =
-    record {
-      out = ap (λ (g : Ledger). g.out) free.ended.ledger ∙ (out_kept grip.Frees (ledger_of a) l (calls_of b).last ∙ was.out);
-      home = ap are_home others ∙ without_home (lock_name l) (calls_of a).holds was.home;
-      noted = held_less l low was.noted others free.none;
-    }
-
 -- a port no call of which waits
 
 pub rests : (s : Share) (d : PvDomain) (bs : List Bool) (o : Pending) (cpu : Cpu) → IsHalting s d → o ≡ Free → Stands s bs o cpu
@@ -169,52 +164,93 @@ pub noted : (s : Share) (bs : List Bool) (o : Pending) (cpu : Cpu) → may_halt 
 noted (family.Runs a) bs o cpu e h = absurd (true≢false (sym e))
 noted (family.Halts a) bs o cpu e h = held_now (arc_value a) bs o cpu h
 
--- a port that is as it was once more, and a lock that was freed behind that
+-- the call that found its lock not free has taken it by now, or waits, or has halted
 
-pub stays_on : {a b c : Port} → Stays a b → Stays b c → Stays a c
-stays_on x y =
-    record {
-      halts = x.halts;
-      share = y.share ∙ x.share;
-      cpu = record {
-        table = y.cpu.table ∙ x.cpu.table;
-        id = y.cpu.id ∙ x.cpu.id;
-        number = y.cpu.number ∙ x.cpu.number;
-        view = y.cpu.view ∙ x.cpu.view;
-      };
-      pending = y.pending ∙ x.pending;
-      notes = y.notes ∙ x.notes;
-    }
+done_or : (a : Answer) → is_turn a ≡ true → (a ≡ Done) ⊎ (a ≢ Done)
+done_or Done e = inl refl
+done_or answer.Waits e = inr (λ x. let z : answer.Waits ≡ Done = x in let no : ⊥ = cc z in no)
+done_or answer.Halts e = inr (λ x. let z : answer.Halts ≡ Done = x in let no : ⊥ = cc z in no)
+done_or answer.Again e = absurd (true≢false (sym e))
+done_or answer.Busy e = absurd (true≢false (sym e))
+done_or answer.NoLock e = absurd (true≢false (sym e))
+done_or answer.WrongKind e = absurd (true≢false (sym e))
+done_or answer.Held e = absurd (true≢false (sym e))
+done_or answer.NotHeld e = absurd (true≢false (sym e))
+done_or answer.WrongManner e = absurd (true≢false (sym e))
+done_or answer.Pending e = absurd (true≢false (sym e))
+done_or answer.Idle e = absurd (true≢false (sym e))
 
-pub may_still : {a b : Port} (k : Kind) (l : ℕ) (held : Bool) → Stays a b → MayCall a k l held → MayCall b k l held
-may_still {a} {b} k l held x may =
-    let same = ap domain_of (sym x.share) in
-    record {
-      free = x.pending ∙ may.free;
-      lock = subst (λ (d : Domain). l < locks_of d.plan) same may.lock;
-      kind = subst (λ (d : Domain). kind_at d.plan l ≡ k) same may.kind;
-      holds = ap (λ (v : View). holds_in v.calls.holds l) x.cpu.view ∙ may.holds;
-    }
+module _ (s : Share) (d : PvDomain) (is : IsHalting s d) (bs : List Bool) (l : ℕ) (was now : Bool) (o p : Pending) (st : Start) (new : Cpu) where
+  has_settled : o ≡ Free → l < locks_of d.domain.plan → IsHome d bs st.holds st.ledger → HasSettled s l st new → (now ≡ true) × (p ≡ o)
+      → Stands s (set bs l now) p new
+  has_settled free low home has noted =
+      let t = halting _ _ s d is has in
+      subst (λ (b : Bool). Stands s (set bs l b) p new) (sym noted.0)
+      (stands s d (set bs l true) p new is (noted.1 ∙ free) (t.rests, took d Lock l (own_node new) st new.seat bs home low t.took))
 
-freed_since : (d : PvDomain) (l : ℕ) (a b c : Cpu) → IsStill a b → HasFreed d l b c → HasFreed d l a c
-freed_since d l a b c is free =
-    let slots = b.carried ∙ (ap carried_of is.view ∙ sym a.carried) in
-    let own : own_node b ≡ own_node a = λ i. record { cpu = is.number i; index = 0 } in
-    let start : first_of Unlock l b.seat ≡ first_of Unlock l a.seat = λ i. starting Unlock l (is.table i) (is.id i) (is.view i, slots i) in
-    record {
-      ended = subst (λ (n : NodeName). Ended d.domain Unlock l n (first_of Unlock l a.seat) grip.Frees c.seat) own
-          (subst (λ (s : Start). Ended d.domain Unlock l (own_node b) s grip.Frees c.seat) start free.ended);
-      none = free.none;
-      rests = free.rests;
-    }
+  has_slept : IsHome d bs st.holds st.ledger → slice_get bs l ≡ Some was → IsAsleep s p st new → now ≡ was → Stands s (set bs l now) p new
+  has_slept home at has same =
+      let h = halting _ _ s d is has in
+      let kept = ap (set bs l) same ∙ set-slice_get was bs l at in
+      subst (λ (xs : List Bool). Stands s xs p new) (sym kept)
+      (subst (λ (x : Pending). Stands s bs x new) (sym h.1) (halts_by _ _ s d is (st, home, h.2)))
 
-pub frees_since : {a b : Port} (c : Port) (l : ℕ) → Stays a b → Frees l b c → Frees l a c
-frees_since {a} {b} c l x free = by a.share x.halts (subst (λ (s : Share). By s (λ _. HasUnlocked l b c) (λ d. HasFreed d l b.cpu c.cpu)) x.share free)
-  where
-    by : (s : Share) → may_halt s ≡ true → By s (λ _. HasUnlocked l b c) (λ d. HasFreed d l b.cpu c.cpu)
-        → By s (λ _. HasUnlocked l a c) (λ d. HasFreed d l a.cpu c.cpu)
-    by (family.Runs y) e h = absurd (true≢false (sym e))
-    by (family.Halts y) e h = freed_since (arc_value y) l a.cpu b.cpu c.cpu x.cpu h
+  pub settled : (a : Answer) → is_turn a ≡ true → o ≡ Free → l < locks_of d.domain.plan → IsHome d bs st.holds st.ledger → slice_get bs l ≡ Some was
+      → (a ≡ Done → HasSettled s l st new) → (a ≡ Done → (now ≡ true) × (p ≡ o)) → (a ≢ Done → IsAsleep s p st new) → (a ≢ Done → now ≡ was)
+      → Stands s (set bs l now) p new
+  settled a turn free low home at has noted asleep still = elim (done_or a turn) [
+    | inl e ↦ has_settled free low home (has e) (noted e)
+    | inr ne ↦ has_slept home at (asleep ne) (still ne)
+  ]
+
+-- a release has freed the lock, or the processor is as it was
+
+pub released : (d : PvDomain) (l : ℕ) (a : Cpu) (b : Seat Slot View) (bs : List Bool) → IsHome d bs (calls_of a).holds (ledger_of a) → l < locks_of d.domain.plan
+    → Ended d.domain Unlock l (own_node a) (first_of Unlock l a.seat) grip.Frees b
+    → IsResting b.me.0.calls × IsHome d (set bs l false) b.me.0.calls.holds b.me.0.ledger
+released d l a b bs was low e =
+    let own = own_node a in (
+      let_rests (is_let a.seat b e),
+      record {
+        out = ap (λ (g : Ledger). g.out) e.ledger ∙ (out_kept grip.Frees (ledger_of a) l b.me.0.calls.last ∙ was.out);
+        home = ap are_home (freed_others d.domain l own a.seat b e) ∙ without_home (lock_name l) (calls_of a).holds was.home;
+        noted = held_less l low was.noted (freed_others d.domain l own a.seat b e) (freed_none d.domain l own a.seat b e);
+      },
+    )
+
+module _ (d : PvDomain) (l : ℕ) (a : Cpu) (b : Seat Slot View) (f : Bool)
+    (freed : f ≡ true → Ended d.domain Unlock l (own_node a) (first_of Unlock l a.seat) grip.Frees b) (still : f ≡ false → IsAsItWas a.seat b) where
+  -- what it leaves as it was of its processor
+  pub let_or_still : (b.table_id ≡ a.seat.table_id) × (b.id ≡ a.seat.id) × IsKept a.seat.me b.me
+  let_or_still = by f refl
+    where
+      by : (g : Bool) → f ≡ g → (b.table_id ≡ a.seat.table_id) × (b.id ≡ a.seat.id) × IsKept a.seat.me b.me
+      by true e = let t = is_let a.seat b (freed e) in (t.table_was, t.id_was, record { who = t.who; slots = t.slots; out = t.out })
+      by false e =
+          let s = still e in (
+            s.table,
+            s.id,
+            record {
+              who = ap (λ (m : Me Slot View). m.0.who) s.me;
+              slots = ap (λ (m : Me Slot View). m.1) s.me;
+              out = ap (λ (m : Me Slot View). m.0.ledger.out) s.me;
+            },
+          )
+
+  -- and how its port stands
+  pub let_stands : (bs : List Bool) (was now : Bool) → IsResting (calls_of a) × IsHome d bs (calls_of a).holds (ledger_of a) → l < locks_of d.domain.plan
+      → slice_get bs l ≡ Some was → (f ≡ true → now ≡ false) → (f ≡ false → now ≡ was)
+      → IsResting b.me.0.calls × IsHome d (set bs l now) b.me.0.calls.holds b.me.0.ledger
+  let_stands bs was now r low at none same = by f refl
+    where
+      by : (g : Bool) → f ≡ g → IsResting b.me.0.calls × IsHome d (set bs l now) b.me.0.calls.holds b.me.0.ledger
+      by true e =
+          subst (λ (x : Bool). IsResting b.me.0.calls × IsHome d (set bs l x) b.me.0.calls.holds b.me.0.ledger) (sym (none e))
+          (released d l a b bs r.1 low (freed e))
+      by false e =
+          subst (λ (xs : List Bool). IsResting b.me.0.calls × IsHome d xs b.me.0.calls.holds b.me.0.ledger)
+          (sym (ap (set bs l) (same e) ∙ set-slice_get was bs l at))
+          (subst (λ (m : Me Slot View). IsResting m.0.calls × IsHome d bs m.0.calls.holds m.0.ledger) (sym (still e).me) r)
 
 -- a new one
 pub dealt : {domain : PvDomain} {i : ℕ} {cpu : Cpu} {bs : List Bool} → bs ≡ replicate (locks_of domain.domain.plan) false

@@ -32,6 +32,11 @@ module _ (P : Domain → Type 0) (Q : PvDomain → Type 0) where
   halting (Runs a) d is p = absurd is
   halting (Halts a) d is q = subst Q (sym is) q
 
+-- there is one
+pub halting_in : (s : Share) → may_halt s ≡ true → (d : PvDomain) × IsHalting s d
+halting_in (Runs a) e = absurd (true≢false (sym e))
+halting_in (Halts a) e = (arc_value a, refl)
+
 -- its domain is that one
 pub same_domain : (s : Share) (d : PvDomain) → IsHalting s d → domain_of s ≡ d.domain
 same_domain (Runs a) d is = absurd is

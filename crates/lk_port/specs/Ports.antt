@@ -4,8 +4,10 @@ use Rattle.lk_names.specs.declared.holder.Manner.{Manner}
 use Rattle.lk_names.specs.declared.holder.Manner.TheVariants as manner
 use Rattle.lk_names.specs.declared.names.Kind.TheVariants.{Rw}
 use Rattle.lk_rows.specs.declared.parts.Pc.{Pc}
+use Rattle.lk_rows.specs.declared.parts.Pc.TheVariants.{G1}
 use Rattle.lk_rows.specs.declared.setup.Verb.{Verb}
 use Rattle.lk_rows.specs.declared.setup.Verb.TheVariants as verb
+use Rattle.lk_domain.specs.Paths.{Any}
 use Rattle.lk_domain.specs.Plans.{kind_at}
 use Rattle.lk_domain.specs.Seats.{IsStill, calls_of}
 use Rattle.lk_domain.specs.Waits.{Gains, Drops}
@@ -26,12 +28,13 @@ use Rattle.lk_run.specs.declared.read_waiter.ReadWaiter.{ReadWaiter}
 use Rattle.lk_run.specs.declared.waiter.Waiter.{Waiter}
 use Rattle.lk_run.specs.declared.write_waiter.WriteWaiter.{WriteWaiter}
 use Rattle.lk_port.specs.Asking.{cpu_in, domain_in}
-use Rattle.lk_port.specs.Shares.{By, may_halt}
+use Rattle.lk_port.specs.Shares.{By, domain_of, may_halt}
 use Rattle.lk_port.specs.declared.answer.Answer.{Answer}
 use Rattle.lk_port.specs.declared.answer.Answer.TheVariants as answer
 use Rattle.lk_port.specs.declared.pending.Pending.{Pending}
 use Rattle.lk_port.specs.declared.pending.Pending.TheVariants.{Free, Spins, Reads, Writes, Halts}
 use Rattle.lk_port.specs.declared.port.Port.{Port}
+use Rattle.lk_port.specs.declared.share.Share.{Share}
 
 -- a call comes to this by a turn
 abbrev pub is_turn : Answer → Bool
@@ -63,6 +66,19 @@ HasUnlocked l p q = Drops l (cpu_in p) (cpu_in q)
 -- the call for this spinlock that began so waits, and is the one that is pending
 abbrev pub IsPending : Domain → LockId → Pending → Start → Cpu → Type 0
 IsPending d lock pending s cpu = (w : Waiter) × (pending ≡ Spins w) × (w.lock ≡ lock) × locker.Waits d w s cpu
+
+-- Where waiters halt the call for this spinlock that began so found it not free, and stands behind its first
+-- row. Then it has taken it, or it waits or has halted, and is the one that is pending.
+
+abbrev pub HasBegun : Share → ℕ → began.Start → Cpu → Type 0
+HasBegun share l s cpu = began.At (domain_of share) verb.Lock l (halting.own_node cpu) s G1 Any cpu.seat
+
+abbrev pub HasSettled : Share → ℕ → began.Start → Cpu → Type 0
+HasSettled share l s cpu = By share (λ d. ⊥) (λ d. halting.HasTakenSince d l s cpu)
+
+abbrev pub IsAsleep : Share → Pending → began.Start → Cpu → Type 0
+IsAsleep share pending s cpu =
+    By share (λ d. ⊥) (λ d. (w : PvWaiter) × (pending ≡ Halts w) × turn.Waits d w s cpu)
 
 -- the same in each family
 

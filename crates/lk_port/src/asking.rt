@@ -43,6 +43,21 @@ impl Port {
         lock.index < NEAR && self.last_allows(lock, held)
     }
 
+    // Whether waiters halt and a call may begin on a spinlock that the processor holds, or does not.
+    #[inline(always)]
+    pub(crate) fn allows_halting(&self, lock: LockId, held: bool) -> bool
+        ensures may { result ≡ true → MayCall self.now Spin lock.index held }
+        ensures halts { result ≡ true → may_halt self.now.share ≡ true }
+    {
+        if !self.share.halts() {
+            return false;
+        }
+        match self.refuses(lock, Kind::Spin, held) {
+            Some(_) => false,
+            None => true,
+        }
+    }
+
     // Whether a call may begin on a spinlock that the processor holds, or does not, and by whose calls.
     #[inline]
     pub(crate) fn asks(&self, lock: LockId, held: bool) -> Asked

@@ -15,12 +15,12 @@ ghost use Rattle.lk_port.specs.Shares.{domain_of, may_halt};
 ghost use Rattle.lk_port.specs.declared.answer.Answer.TheVariants.{Again, Busy, Done, Halts, Waits};
 
 use crate::answer::{Answer, Asked, Freed};
+use crate::halting::freed_by;
 use crate::last::NONE;
 use crate::pending::Pending;
 use crate::port::Port;
 use crate::share::Share;
 use lk_domain::{Cpu, LockId};
-use lk_pvdomain::PvRelease;
 use lk_run::Arrival;
 
 impl Port {
@@ -142,20 +142,19 @@ impl Port {
         ensures why { result.answer ≢ Done → result.answer ≢ Again
             → Refuses self.old Spin lock.index result.answer }
     {
-        let (answer, kicked) = match self.asks(lock, true) {
-            Asked::Refused(answer) => (answer, None),
+        let answer = match self.asks(lock, true) {
+            Asked::Refused(answer) => answer,
             Asked::Runs => {
                 self.last = lock.index;
                 self.frees(lock);
-                (Answer::Done, None)
+                Answer::Done
             }
-            Asked::Halts => match self.frees_halting(lock) {
-                PvRelease::Freed => (Answer::Done, None),
-                PvRelease::Kicked(number) => (Answer::Done, Some(number)),
-                PvRelease::Still => (Answer::Again, None),
-            },
+            Asked::Halts => return freed_by(self.frees_halting(lock)),
         };
-        Freed { answer, kicked }
+        Freed {
+            answer,
+            kicked: None,
+        }
     }
 
     /// Does as `unlock` does where two tests tell that it may. False says that they did not: then nothing

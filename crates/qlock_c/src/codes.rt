@@ -5,7 +5,7 @@ ghost use Rattle.lk_port.specs.declared.answer.Answer.TheVariants.{Done};
 use lk_port::{Answer, Fault, Freed};
 
 /// No processor was kicked.
-const NOBODY: u32 = u32::MAX;
+pub(crate) const NOBODY: u32 = u32::MAX;
 
 /// The domain has no such lock.
 const NO_LOCK: u32 = 3;

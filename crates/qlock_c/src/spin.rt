@@ -1,10 +1,9 @@
 // The calls on a spinlock, and that which goes on with a call of any kind.
 ghost use Rattle.std.specs.Prelude.{◌≡◌, ◌≢◌, true};
 ghost use Rattle.lk_port.specs.Ports.{Ends, Frees, Locks, Tries};
-ghost use Rattle.lk_port.specs.Shares.{may_halt};
 ghost use Rattle.qlock_c.specs.Crossing.{Crosses};
 
-use crate::codes::{CLOSED, code, freed_code};
+use crate::codes::{CLOSED, NOBODY, code, freed_code};
 use crate::processor::Processor;
 use lk_domain::LockId;
 use lk_port::Port;
@@ -39,6 +38,16 @@ fn begins(port: &mut Port, lock: u32) -> u32
 {
     match port.begin_last(LockId { index: lock }) {
         Some(answer) => code(answer),
+        None => begins_halting(port, lock),
+    }
+}
+
+#[inline(never)]
+fn begins_halting(port: &mut Port, lock: u32) -> u32
+    ensures { result ≡ 0 → Locks lock port.old port.new }
+{
+    match port.begin_halting(LockId { index: lock }) {
+        Some(answer) => code(answer),
         None => begins_anew(port, lock),
     }
 }
@@ -47,18 +56,6 @@ fn begins(port: &mut Port, lock: u32) -> u32
 fn begins_anew(port: &mut Port, lock: u32) -> u32
     ensures { result ≡ 0 → Locks lock port.old port.new }
 {
-    if port.may_halt() {
-        return begins_halting(port, lock);
-    }
-    code(port.begin(LockId { index: lock }))
-}
-
-#[inline(never)]
-fn begins_halting(port: &mut Port, lock: u32) -> u32
-    requires { may_halt port.old.share ≡ true }
-    ensures { result ≡ 0 → Locks lock port.old port.new }
-{
-    prove!(port.may_halt());
     code(port.begin(LockId { index: lock }))
 }
 
@@ -80,25 +77,16 @@ fn frees(port: &mut Port, lock: u32) -> u32
     if port.unlock_last(LockId { index: lock }) {
         return 0;
     }
-    frees_anew(port, lock)
+    match port.unlock_halting(LockId { index: lock }) {
+        Some(freed) => code(freed.answer),
+        None => frees_anew(port, lock),
+    }
 }
 
 #[inline(never)]
 fn frees_anew(port: &mut Port, lock: u32) -> u32
     ensures { result ≡ 0 → Frees lock port.old port.new }
 {
-    if port.may_halt() {
-        return frees_halting(port, lock);
-    }
-    code(port.unlock(LockId { index: lock }).answer)
-}
-
-#[inline(never)]
-fn frees_halting(port: &mut Port, lock: u32) -> u32
-    requires { may_halt port.old.share ≡ true }
-    ensures { result ≡ 0 → Frees lock port.old port.new }
-{
-    prove!(port.may_halt());
     code(port.unlock(LockId { index: lock }).answer)
 }
 
@@ -111,9 +99,30 @@ pub extern "C" fn qlock_unlock_kick(cpu: &mut Processor, lock: u32, kicked: &mut
     if !cpu.used {
         return CLOSED;
     }
-    let port = cpu.handle.port_mut();
-    let freed = port.unlock(LockId { index: lock });
-    freed_code(freed, kicked)
+    tells(cpu.handle.port_mut(), lock, kicked)
+}
+
+// What is left of it with the port, as in `begins`.
+fn tells(port: &mut Port, lock: u32, kicked: &mut u32) -> u32
+    ensures freed { result ≡ 0 → Frees lock port.old port.new }
+    ensures same { result ≢ 0 → kicked.new ≡ kicked.old }
+{
+    if port.unlock_last(LockId { index: lock }) {
+        *kicked = NOBODY;
+        return 0;
+    }
+    match port.unlock_halting(LockId { index: lock }) {
+        Some(freed) => freed_code(freed, kicked),
+        None => tells_anew(port, lock, kicked),
+    }
+}
+
+#[inline(never)]
+fn tells_anew(port: &mut Port, lock: u32, kicked: &mut u32) -> u32
+    ensures freed { result ≡ 0 → Frees lock port.old port.new }
+    ensures same { result ≢ 0 → kicked.new ≡ kicked.old }
+{
+    freed_code(port.unlock(LockId { index: lock }), kicked)
 }
 
 /// Goes on with the call that waits, of whatever kind it is.
