@@ -1,19 +1,12 @@
 // The acts by which a state was first met.
 
-ghost use Rattle.std.specs.Prelude.{◌≡◌, ◌<◌, ◌∷◌, IfOk, OnOk, length};
+ghost use Rattle.std.specs.Prelude.{◌<◌, IfOk, length, reverse};
 ghost use Rattle.lk_reach.specs.Path.{AreLow, IsBefore, IsPath};
 
 use crate::book::Book;
-use crate::plan::Plan;
+use crate::plan::{Plan, add};
 use lk_names::{Act, Memory};
 use std::alloc::Global;
-
-// Puts an act before others.
-fn put_first(acts: &mut Vec<Act>, doing: Act) -> Result<(), Memory>
-    ensures { OnOk result (acts.new.items ≡ doing ∷ acts.old.items) }
-{
-    acts.insert(0, doing).map_err(|_| Memory)
-}
 
 // The state from which a state was first met, and the act.
 fn before(plan: &Plan, book: &Book, state: usize) -> (usize, Act)
@@ -24,6 +17,25 @@ fn before(plan: &Plan, book: &Book, state: usize) -> (usize, Act)
 {
     let origin = book.origin(state);
     (origin.state as usize, plan.act(origin.act as usize))
+}
+
+// The acts by which a state was first met, the last one first.
+fn acts_back(alloc: Global, plan: &Plan, book: &Book, state: usize) -> Result<Vec<Act>, Memory>
+    requires low { AreLow plan.now book.now }
+    requires there { state < length book.now.origins }
+    ensures { IfOk result (λ acts. IsPath plan.now book.now 0 state (reverse acts.items)) }
+{
+    let mut acts = Vec::with_capacity(alloc, book.level(state) as usize)?;
+    let mut here = state;
+    for _made in 0..state {
+        if here == 0 {
+            return Ok(acts);
+        }
+        let (before, doing) = before(plan, book, here);
+        add(&mut acts, doing)?;
+        here = before;
+    }
+    Ok(acts)
 }
 
 /// The acts by which a state was first met, from the first state on.
@@ -41,15 +53,7 @@ pub(crate) fn path_to(
     requires there { state < length book.now.origins }
     ensures { IfOk result (λ acts. IsPath plan.now book.now 0 state acts.items) }
 {
-    let mut acts = Vec::new(alloc);
-    let mut here = state;
-    for _made in 0..state {
-        if here == 0 {
-            return Ok(acts);
-        }
-        let (before, doing) = before(plan, book, here);
-        put_first(&mut acts, doing)?;
-        here = before;
-    }
+    let mut acts = acts_back(alloc, plan, book, state)?;
+    acts.reverse();
     Ok(acts)
 }

@@ -1,12 +1,13 @@
-use Rattle.std.proofs.Common.{arith, ◌≡◌, ℕ, List, refl, sym, subst}
+use Rattle.std.proofs.Common.{arith, ◌≡◌, ◌∷◌, ◌∙◌, [], ℕ, List, ap, refl, reverse, sym, subst}
+use Rattle.std.proofs.lemmas.List.{reverse-append}
 use Rattle.lk_reach.proofs.Names.{Act, IsPath}
-use Rattle.lk_reach.proofs.path.path_to.Goals as goal
+use Rattle.lk_reach.proofs.path.acts_back.Goals as goal
 
 pub loop-made-init : goal.loop-made-init
 loop-made-init c = record {
   down = omega arith;
-  path = subst (λ (acts : List Act). IsPath c.args.plan.now c.args.book.now c.args.state c.args.state acts)
-      (sym c.new-acts.ensures.items) refl;
+  path = subst (λ (acts : List Act). IsPath c.args.plan.now c.args.book.now c.args.state c.args.state (reverse acts))
+      (sym c.in_ok-acts.ensures.items) refl;
 }
 
 pub before-before-requires : goal.before-before-requires
@@ -27,12 +28,12 @@ loop-made-preserved c =
     record {
       down = omega (arith, down, low, from);
       path = subst (λ (acts : List Act). IsPath c.args.plan.now c.args.book.now c.before-before.result.0 c.args.state acts)
-          (sym c.in_ok-put_first.ensures) (c.loop-made.here, before, omega (arith, up), inv.path);
+          (sym (ap (λ (acts : List Act). reverse acts) c.in_ok-add.ensures ∙ reverse-append c.loop-made.acts.items (c.before-before.result.1 ∷ []))) (c.loop-made.here, before, omega (arith, up), inv.path);
     }
 
 pub returns-then-here-eq0 : goal.returns-then-here-eq0
 returns-then-here-eq0 c =
-    subst (λ (k : ℕ). IsPath c.args.plan.now c.args.book.now k c.args.state c.loop-made.acts.items) c.if-here-eq0.true
+    subst (λ (k : ℕ). IsPath c.args.plan.now c.args.book.now k c.args.state (reverse c.loop-made.acts.items)) c.if-here-eq0.true
     c.loop-made.invariant.path
 
 pub returns : goal.returns
@@ -40,5 +41,5 @@ returns c =
     let down = c.loop-made.invariant.down in
     let end = c.loop-made-test.false in
     let is : c.loop-made.here ≡ 0 = omega (arith, down, end) in
-    subst (λ (k : ℕ). IsPath c.args.plan.now c.args.book.now k c.args.state c.loop-made.acts.items) is
+    subst (λ (k : ℕ). IsPath c.args.plan.now c.args.book.now k c.args.state (reverse c.loop-made.acts.items)) is
     c.loop-made.invariant.path
