@@ -106,7 +106,7 @@ pub(crate) fn here_at(
 }
 
 // The machine, which an act led to from the state that is left, becomes its fold. Without a schedule it
-// keeps its numbers.
+// keeps its numbers. It is behind that schedule already if nobody gets a new number.
 fn become_fold(space: &Space, machine: &mut Machine, plan: &Plan, here: &Here, doing: Act)
     requires few { length machine.old.cpus ≤ 8 }
     requires such { IsSuch machine.old.setup machine.old }
@@ -118,6 +118,9 @@ fn become_fold(space: &Space, machine: &mut Machine, plan: &Plan, here: &Here, d
 {
     if let Some(way) = &here.way {
         let order = order_for(plan, machine);
+        if order.is_own() {
+            return;
+        }
         run_renamed(space, machine, plan, way, &order);
         let _ = make(machine, order.act(doing));
     }

@@ -37,6 +37,11 @@ impl Order {
         }
     }
 
+    /// Whether each processor keeps its number.
+    pub(crate) fn is_own(&self) -> bool {
+        self.to == Order::none().to
+    }
+
     // Whether a processor gets the number of one that is like it, and each is the new number of one.
     fn is_placed(&self, peers: &Peers, cpus: u32, cpu: u32) -> bool
         ensures { result ≡ true → IsPlaced peers.now.firsts cpus self.now cpu }

@@ -28,8 +28,8 @@ make-requires c =
       range = subst (λ (m : Machine). processor_of c.act.result < length m.cpus) back (omega (arith, low, cpus, act));
     }
 
-pub returns-in-Some : goal.returns-in-Some
-returns-in-Some c =
+pub returns-else-is_own : goal.returns-else-is_own
+returns-else-is_own c =
     let p = c.args.plan.now in
     let z = c.args.machine.now.setup in
     let h = c.requires.here in
@@ -48,6 +48,14 @@ returns-in-Some c =
 -- without a schedule
 pub returns-in_default : goal.returns-in_default
 returns-in_default c = record {
+  renaming = folded.own_numbers;
+  fits = folded.own_fits c.args.plan.now c.args.machine.now.setup c.requires.here.begun;
+  is = sym (folded.own_same c.args.machine.now);
+}
+
+-- nobody gets a new number
+pub returns-then-is_own : goal.returns-then-is_own
+returns-then-is_own c = record {
   renaming = folded.own_numbers;
   fits = folded.own_fits c.args.plan.now c.args.machine.now.setup c.requires.here.begun;
   is = sym (folded.own_same c.args.machine.now);
