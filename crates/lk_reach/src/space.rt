@@ -52,6 +52,8 @@ pub(crate) struct Space {
     /// are sought by these then.
     folds: Keys,
     slots: Slots,
+    /// Where states are folded, slots by the keys of the states themselves.
+    owns: Slots,
     recent: Recent,
 }
 
@@ -86,6 +88,7 @@ impl Space {
             keys: Keys::new(alloc),
             folds: Keys::new(alloc),
             slots: Slots::new(alloc)?,
+            owns: Slots::new(alloc)?,
             recent: Recent::none(alloc),
         })
     }
@@ -276,20 +279,29 @@ impl Space {
         }
     }
 
+    // The number of a state whose key has the form of this one, by its hash, if it is found in these
+    // slots.
+    #[inline]
+    fn find_in(&self, slots: &Slots, key: &Key, hash: u64) -> Option<u32>
+        ensures { IfSome result (λ k. IsNumberOf self.now k key.now) }
+    {
+        let mut at = slots.home(hash);
+        for _ in 0..slots.len() {
+            let slot = slots.get(at)?;
+            let number = slots.number(slot);
+            if slots.may_be(slot, hash) && self.has_form(number as usize, key) {
+                return Some(number);
+            }
+            at = slots.behind(at);
+        }
+        None
+    }
+
     // The number of a state whose key has the form of this one, by its hash, if it is found.
     fn find(&self, key: &Key, hash: u64) -> Option<u32>
         ensures { IfSome result (λ k. IsNumberOf self.now k key.now) }
     {
-        let mut at = self.slots.home(hash);
-        for _ in 0..self.slots.len() {
-            let slot = self.slots.get(at)?;
-            let number = self.slots.number(slot);
-            if self.slots.may_be(slot, hash) && self.has_form(number as usize, key) {
-                return Some(number);
-            }
-            at = self.slots.behind(at);
-        }
-        None
+        self.find_in(&self.slots, key, hash)
     }
 
     // By which key the state of this number is sought.
@@ -412,21 +424,6 @@ impl Space {
         Ok(number)
     }
 
-    /// This number, if its state has this key, or differs from that one in dead registers alone.
-    pub(crate) fn like(&self, state: usize, key: &Key) -> Option<u32>
-        ensures same { IfSome result (λ k. k ≡ state) }
-        ensures alike { IfSome result (λ k. (s t : MachineValue) → Keeps self.now state s
-            → KeyKeeps self.now.parts self.now.shareds key.now t → IsSameKind s t → AreAlike s t) }
-    {
-        self.formed();
-        let number = u32::try_from(state).ok()?;
-        if self.has_form(state, key) {
-            Some(number)
-        } else {
-            None
-        }
-    }
-
     /// The row that a step of a processor makes at a state, if it makes one.
     pub(crate) fn row_at(&self, state: usize, cpu: u32) -> Option<Pc>
         requires there { state < length self.now.keys }
@@ -455,7 +452,8 @@ impl Space {
             .len()
             .saturating_add(self.shareds.items.len());
         let keys = self.keys.bytes().saturating_add(self.folds.bytes());
-        let slots = self.len().saturating_mul(SLOT_BYTES);
+        let count = self.len().saturating_add(self.folds.len());
+        let slots = count.saturating_mul(SLOT_BYTES);
         keys.saturating_add(slots)
             .saturating_add(parts.saturating_mul(PART_BYTES))
     }

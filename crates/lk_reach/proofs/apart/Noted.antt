@@ -159,16 +159,16 @@ module _ (plan : Plan) (setup : Setup) (begun : IsBegun plan setup) where
       folds = λ folds. absurd (not_both plan.folds folds plain);
     }
 
-    -- the state that is left
-    pub like_noted : HaveFolds plan setup v → AddsParts v w → left < length v.keys → k ≡ left
+    -- a state whose key has the form of the machine's
+    pub like_noted : HaveFolds plan setup v → AddsParts v w → k < length w.keys
         → ((s : Machine) → Keeps w k s → IsSameKind s m → AreAlike s m) → IsNoted plan setup v w left m k
-    like_noted folds more low is alike =
+    like_noted folds more there alike =
         let size = ap (λ (ks : List Key). length ks) more.keys in
         record {
-          there = omega (arith, low, is, size);
+          there = there;
           kept = λ t has reached. stands_alike plan setup begun t m (alike t has (kind_of t m reached such));
           stays = λ e s has reached.
-              alike s (subst (λ (h : ℕ). Keeps w h s) (sym is) (keeps_grown v w more.grows left s has))
+              alike s (subst (λ (h : ℕ). Keeps w h s) (sym e) (keeps_grown v w more.grows left s has))
               (kind_of s m reached such);
           grows = more.grows;
           one = λ j high under. absurd (omega (arith, high, under, size));

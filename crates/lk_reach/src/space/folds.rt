@@ -5,12 +5,14 @@ ghost use Rattle.std.specs.Prelude.{◌≡◌, ◌≢◌, ◌<◌, ◌≤◌, If
 ghost use Rattle.lk_rows.specs.Machine.{Machine as MachineValue};
 ghost use Rattle.lk_idle.specs.Alike.{AreAlike};
 ghost use Rattle.lk_reach.specs.Helped.{IsFoldNoted};
-ghost use Rattle.lk_reach.specs.Space.{AddsFold, Folds, Grows, IsFolded, IsFoldNumbered, IsFoldOf, IsSameKind, KeyKeeps};
+ghost use Rattle.lk_reach.specs.Space.{AddsFold, Folds, Grows, IsFolded, IsFoldNumbered, IsFoldOf, IsNumberOf, IsSameKind, Keeps, KeyKeeps};
 
 use crate::key::Key;
+use crate::slots::Slots;
 use crate::space::Space;
 use lk_machine::Machine;
 use lk_names::Memory;
+use std::mem;
 
 impl Space {
     // Whether the fold of the state with this number has the form of this one.
@@ -44,6 +46,62 @@ impl Space {
         None
     }
 
+    // Gives each state one of these slots, which are empty, by its own key.
+    fn fill_owns(&self, owns: &mut Slots) {
+        let mut number = 0u32;
+        for at in 0..self.len() {
+            owns.put(self.hash_of(&self.near(at)), number);
+            number = number.wrapping_add(1);
+        }
+    }
+
+    // Gives each state a slot by its own key again, of more.
+    fn grow_owns(&mut self) -> Result<(), Memory>
+        ensures { self.new ≡ self.old }
+    {
+        let mut owns = mem::replace(&mut self.owns, Slots::none(self.alloc));
+        owns.widen()?;
+        self.fill_owns(&mut owns);
+        self.owns = owns;
+        Ok(())
+    }
+
+    // Gives the state of this number, which is the last one, a slot by its own key.
+    fn put_own(&mut self, key: &Key, number: u32) -> Result<(), Memory>
+        ensures { self.new ≡ self.old }
+    {
+        let count = self.len();
+        if self.owns.are_few(count) {
+            return self.grow_owns();
+        }
+        let hash = self.hash_of(key);
+        self.owns.put(hash, number);
+        Ok(())
+    }
+
+    // The number of a state whose own key has the form of this one, if it is found. The state `near` is
+    // tried first.
+    fn find_own(&self, near: usize, key: &Key) -> Option<u32>
+        ensures { IfSome result (λ k. IsNumberOf self.now k key.now) }
+    {
+        if self.has_form(near, key) {
+            return u32::try_from(near).ok();
+        }
+        self.find_in(&self.owns, key, self.hash_of(key))
+    }
+
+    /// The number of a state that has this key, or differs from that one in dead registers alone, if one
+    /// is found. The state `near` is tried first.
+    pub(crate) fn like(&self, near: usize, key: &Key) -> Option<u32>
+        ensures there { IfSome result (λ k. k < length self.now.keys) }
+        ensures alike { IfSome result (λ k. (s t : MachineValue) → Keeps self.now k s
+            → KeyKeeps self.now.parts self.now.shareds key.now t → IsSameKind s t → AreAlike s t) }
+    {
+        self.formed();
+        let number = self.find_own(near, key)?;
+        Some(number)
+    }
+
     // Gives the next state its fold.
     fn push_fold(&mut self, fold: &Key) -> Result<(), Memory>
         ensures { OnOk result (AddsFold self.old self.new fold.now) }
@@ -58,6 +116,7 @@ impl Space {
     {
         self.make_room()?;
         let number = self.push(key, self.hash_of(fold))?;
+        self.put_own(key, number)?;
         self.push_fold(fold)?;
         Ok(number)
     }

@@ -66,11 +66,9 @@ returns-in-Some c =
     let w = c.key.new.self in
     let k = c.in-Some.number in
     let e = c.in_ok-key.ensures in
-    let low = slice_get_within v.keys c.args.here.now.spot.state h.keeps.key h.keeps.is in
     record {
-      noted = noted.like_noted p z h.begun v w c.args.here.now.spot.state k m c.requires.such (h.folds c.requires.folds) e.states low
-          c.in-Some.ensures.same
-          (λ s has kind. c.in-Some.ensures.alike s m (subst (λ i. Keeps w i s) c.in-Some.ensures.same has) e.key kind);
+      noted = noted.like_noted p z h.begun v w c.args.here.now.spot.state k m c.requires.such (h.folds c.requires.folds) e.states
+          c.in-Some.ensures.there (λ s has kind. c.in-Some.ensures.alike s m has e.key kind);
       such = subst (λ (q : Machine). IsSuch z q) (sym e.machine) c.requires.such;
     }
 

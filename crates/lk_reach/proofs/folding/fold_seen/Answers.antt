@@ -11,12 +11,11 @@ returns-in-Some-clause-leads c s has reached =
     let v = c.args.space.now in
     let h = c.requires.here in
     let m = c.args.machine.now in
-    let k = c.args.here.now.spot.state in
     let e = c.in-Some.ensures in
-    let good : IsGood p z v k = record { state = h.state; keeps = h.keeps; reached = h.reached } in
-    helped.is_known p z h.begun v k s m has reached c.requires.such c.in-Some.number
-    (subst (λ (i : ℕ). IsGood p z v i) (sym e.same) good)
-    (λ t keeps kind. e.alike t m (subst (λ (i : ℕ). Keeps v i t) e.same keeps) c.in_ok-key.ensures kind)
+    let has_fold = (h.folds c.requires.folds).each c.in-Some.number e.there in
+    helped.is_known p z h.begun v c.args.here.now.spot.state s m has reached c.requires.such c.in-Some.number
+    (record { state = has_fold.state; keeps = has_fold.keeps; reached = has_fold.reached })
+    (λ t keeps kind. e.alike t m keeps c.in_ok-key.ensures kind)
 
 pub key_seen-requires-2 : goal.key_seen-requires-2
 key_seen-requires-2 c =
