@@ -87,6 +87,13 @@ pub record IsOneOf (hs : List Helper) (f : Finding) : Type 0 where
   pub place : ℕ
   pub found : slice_get helper.findings.items place ≡ Some f
 
+-- one of them led to a state with the first key, whose fold has the second
+pub record IsFoldFound (fs : List Finding) (key fold : Key) : Type 0 where
+  pub place : ℕ
+  pub finding : Finding
+  pub is : slice_get fs place ≡ Some finding
+  pub then : finding.then ≡ then.Fold key fold
+
 -- what was found was kept, if there was room
 abbrev pub MayKeep : List Finding → List Finding → Option Finding → Type 0
 MayKeep old new found = (new ≡ old) ⊎ ((f : Finding) × (found ≡ Some f) × (new ≡ old ++ f ∷ []))

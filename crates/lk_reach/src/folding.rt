@@ -2,18 +2,14 @@
 // behind the schedule under new numbers: so it is reached, and no number in it is changed.
 
 ghost use Rattle.std.specs.Prelude.{◌≡◌, ◌<◌, ◌≤◌, IfOk, IfSome, OnOk, Some, length, slice_get, true};
-ghost use Rattle.lk_rows.specs.Machine.{Machine as MachineValue};
 ghost use Rattle.lk_renaming.specs.Renamed.{renamed};
 ghost use Rattle.lk_reach.specs.Explored.{IsSuch};
 ghost use Rattle.lk_reach.specs.Folded.{Fits, HaveFolds, IsBehind, IsHere, IsNoted, IsRenumbered};
-ghost use Rattle.lk_reach.specs.Helped.{LeadsThere};
 ghost use Rattle.lk_reach.specs.Order.{renaming_of};
 ghost use Rattle.lk_reach.specs.Path.{AreLow, IsPath};
-ghost use Rattle.lk_reach.specs.Reach.{AreMoves, IsBegun, IsMove, IsReached, state_after};
-ghost use Rattle.lk_reach.specs.Space.{Keeps};
+ghost use Rattle.lk_reach.specs.Reach.{AreMoves, IsBegun, IsMove, state_after};
 
 use crate::book::Book;
-use crate::found::Then;
 use crate::making::make;
 use crate::order::Order;
 use crate::path::path_to;
@@ -105,9 +101,15 @@ pub(crate) fn here_at(
     Ok(Here { spot, way })
 }
 
-// The machine, which an act led to from the state that is left, becomes its fold. Without a schedule it
-// keeps its numbers. It is behind that schedule already if nobody gets a new number.
-fn become_fold(space: &Space, machine: &mut Machine, plan: &Plan, here: &Here, doing: Act)
+/// The machine, which an act led to from the state that is left, becomes its fold. Without a schedule it
+/// keeps its numbers. It is behind that schedule already if nobody gets a new number.
+pub(crate) fn become_fold(
+    space: &Space,
+    machine: &mut Machine,
+    plan: &Plan,
+    here: &Here,
+    doing: Act,
+)
     requires few { length machine.old.cpus ≤ 8 }
     requires such { IsSuch machine.old.setup machine.old }
     requires here { IsHere plan.now machine.old.setup space.now here.now }
@@ -156,37 +158,4 @@ pub(crate) fn fold(
     become_fold(space, machine, plan, here, doing);
     let number = space.note_fold(machine, &key, here.spot.state)?;
     Ok(number)
-}
-
-/// Where the act led from the state that is left, behind which the machine is, if each part of it and of
-/// its fold was met. The machine is any of its setup afterwards.
-pub(crate) fn fold_seen(
-    space: &Space,
-    machine: &mut Machine,
-    plan: &Plan,
-    here: &Here,
-    doing: Act,
-) -> Option<Then>
-    requires few { length machine.old.cpus ≤ 8 }
-    requires such { IsSuch machine.old.setup machine.old }
-    requires here { IsHere plan.now machine.old.setup space.now here.now }
-    requires folds { plan.now.folds ≡ true }
-    requires moves { IsMove plan.now.extras machine.old.setup doing }
-    requires behind { IsBehind plan.now machine.old.setup space.now here.now doing machine.old }
-    ensures leads { IfSome result (λ then. (s : MachineValue) → Keeps space.now here.now.spot.state s
-        → IsReached plan.now machine.old.setup s → LeadsThere plan.now machine.old.setup space.now
-        here.now.spot.state s machine.old then) }
-    ensures such { IsSuch machine.old.setup machine.new }
-{
-    let left = here.spot.state;
-    let key = space.key_seen(machine, left)?;
-    if let Some(number) = space.like(left, &key) {
-        return Some(Then::Known(number));
-    }
-    become_fold(space, machine, plan, here, doing);
-    let fold = space.key_seen(machine, left)?;
-    match space.known_fold(&fold, left) {
-        Some(number) => Some(Then::Known(number)),
-        None => Some(Then::Fold(key, fold)),
-    }
 }

@@ -6,7 +6,7 @@ ghost use Rattle.std.specs.Prelude.{◌≡◌, ◌<◌, Some, slice_get};
 pub const MAX_CPUS: usize = 8;
 
 /// The numbers of the parts of a state.
-#[derive(Clone, Copy)]
+#[derive(Clone, Copy, PartialEq, Eq)]
 pub(crate) struct Key {
     /// The number of what is no single processor's.
     pub shared: u32,

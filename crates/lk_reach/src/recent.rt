@@ -1,5 +1,6 @@
-// The states that were met since helpers last looked. A helper says of a key that no state had it when
-// it looked. So it is sought among these alone, and they are few enough for the caches of a processor.
+// What was met since helpers last looked: the states, and what a helper found of folded ones. A helper
+// says of a key that no state had it when it looked. So it is sought among these alone, and they are few
+// enough for the caches of a processor.
 //
 // As of other slots, nothing is claimed of these but that each call ends.
 
@@ -9,7 +10,7 @@ use std::alloc::Global;
 // How many slots there are, half of which may be taken.
 const SLOTS: usize = 65_536;
 
-/// Slots for the numbers of such states, and how many there are.
+/// Slots for the numbers of such things, and how many there are.
 #[derive(Drop)]
 pub(crate) struct Recent {
     /// One more than a number, or 0 in an empty slot.
@@ -18,7 +19,7 @@ pub(crate) struct Recent {
 }
 
 impl Recent {
-    /// No slots, so that no state is found.
+    /// No slots, so that nothing is found.
     pub(crate) fn none(alloc: Global) -> Recent {
         Recent {
             slots: Vec::new(alloc),
@@ -58,7 +59,7 @@ impl Recent {
         self.slots.len()
     }
 
-    /// The slot from which a state with this hash is sought.
+    /// The slot from which a thing with this hash is sought.
     #[inline]
     pub(crate) fn home(&self, hash: u64) -> usize {
         (hash >> 48) as usize
@@ -78,7 +79,7 @@ impl Recent {
         slot.checked_sub(1)
     }
 
-    /// Adds a state, if there is room for it.
+    /// Adds a thing, if there is room for it.
     pub(crate) fn put(&mut self, hash: u64, number: u32) {
         self.count = self.count.saturating_add(1);
         if !self.has_all() {

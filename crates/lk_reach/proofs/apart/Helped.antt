@@ -12,10 +12,11 @@ use Rattle.lk_reach.proofs.Names.{IsSameKind, Keeps, KeyKeeps, SpaceValue, AreMa
 use Rattle.lk_reach.proofs.Names.{Key, Plan, Made}
 use Rattle.lk_rows.specs.Machine.{rest_lock}
 use Rattle.lk_reach.proofs.Closed.{reached_such, reached_then, rest_cpus_of, same_state}
-use Rattle.lk_reach.proofs.{Folded.{laws, stands_alike}, Kept.{key_grown, keeps_grown, one_value}}
+use Rattle.lk_reach.proofs.{Folded.{laws, stands_alike}, Kept.{keeps_one, key_grown, keeps_grown, one_value}}
 use Rattle.lk_reach.proofs.{Left.grows_self, apart.Grown.like_grown}
 use Rattle.lk_reach.proofs.apart.Noted.{fold_noted, plain_noted, same_kind}
 use Rattle.lk_reach.proofs.apart.Remembered.{made_grown}
+use Rattle.lk_reach.specs.{Explored.OnlyMoves, Helped.IsFoldFound}
 use Rattle.lk_reach.specs.Helped.{HasLooked, HaveKeys, IsFoldNoted, IsFound, IsFresh, IsHelper}
 use Rattle.lk_reach.specs.Helped.{IsKeyNoted, IsKnown, IsOneOf, IsSettled, MayKeep, MaySettle}
 use Rattle.lk_reach.specs.{declared.found.Finding.Finding, declared.found.Then.Then}
@@ -125,6 +126,23 @@ module _ (plan : Plan) (setup : Setup) where
         made = made_grown setup v w g h.steps.made.items y.made;
         found = λ j f is. found_grown v w g f (y.found j f is);
       }
+
+  -- the keys that were found of a state are those of each machine that has the first
+  pub keys_found : IsBegun plan setup → (v : SpaceValue) (fs : List Finding) (key fold : Key) (m : Machine)
+      → OnlyMoves plan.extras setup plan.acts.items → AreFound plan setup v fs → IsFoldFound fs key fold → IsSuch setup m
+      → KeyKeeps v.parts v.shareds key m → HaveKeys plan setup v m key fold
+  keys_found begun v fs key fold m moves found x such keeps =
+      let f = found x.place x.finding x.is in
+      let n = after f.state f.act in
+      let have : HaveKeys plan setup v n key fold =
+      subst (λ (t : Then). LeadsThere plan setup v x.finding.state f.state n t) x.then f.then in
+      let behind = reached_such laws plan setup begun n
+      (reached_then laws plan setup begun f.state f.act f.reached (moves x.finding.act f.act f.doing)) in
+      let alone : SpaceValue = record v { keys = key ∷ [] } in
+      let same : n ≡ m = keeps_one alone 0 n m (record { key = key; is = refl; keeps = have.keeps })
+      (record { key = key; is = refl; keeps = keeps }) (behind.setup ∙ sym such.setup) (behind.counts ∙ sym such.counts)
+      (behind.cpus ∙ sym such.cpus) in
+      subst (λ (q : Machine). HaveKeys plan setup v q key fold) same have
 
   pub one_found : (v : SpaceValue) (hs : List Helper) (f : Finding) → AreHelpers plan setup v hs → IsOneOf hs f
       → IsFound plan setup v f

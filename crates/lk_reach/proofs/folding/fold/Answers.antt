@@ -1,6 +1,6 @@
 use Rattle.std.proofs.Common.{◌≡◌, ◌≤◌, List, ap, arith, length, subst, sym}
 use Rattle.lk_reach.proofs.Names.{slice_get_within, Machine, IsSuch, IsBehind, IsHere, IsMove}
-use Rattle.lk_reach.proofs.Names.{after, Keeps, Key}
+use Rattle.lk_reach.proofs.Names.{after, Key}
 use Rattle.lk_reach.proofs.Kept.{keeps_grown}
 use Rattle.lk_reach.specs.Folded.{IsRenumbered}
 use Rattle.lk_reach.proofs.Closed as closed

@@ -1,5 +1,5 @@
 use Rattle.std.proofs.Common.{◌∙◌, List, arith, sym, subst, IfSome}
-use Rattle.lk_reach.proofs.Names.{Setup, IsSuch, IsHere, MayLook, IsPath, AreMoves, state_after}
+use Rattle.lk_reach.proofs.Names.{Setup, IsSuch, IsHere, AreFound, MayLook, IsPath, AreMoves, state_after}
 use Rattle.lk_reach.proofs.Names.{Keeps, AreMade}
 use Rattle.lk_reach.specs.{Helped.{IsFound, MayKeep}, declared.found.Finding.Finding}
 use Rattle.lk_reach.proofs.apart.Helped as helped
@@ -37,6 +37,11 @@ find-found-requires-clause-here c =
     (helped.if_some here.way (λ w. IsPath p c.args.book.now 0 k w.items)
     (λ w. AreMoves p.extras z w.items × Keeps v k (state_after p z w.items))
     (λ w path. c.requires.sent.1.ways k w.items c.requires.there path) e.way))
+
+pub find-found-requires-clause-found : goal.find-found-requires-clause-found
+find-found-requires-clause-found c =
+    let inv = c.loop-act.invariant in
+    subst (λ (q : Setup). AreFound c.args.plan.now q c.args.space.now c.loop-act.self.findings.items) (sym inv.same) inv.found
 
 pub loop-act-preserved : goal.loop-act-preserved
 loop-act-preserved c =

@@ -1,6 +1,6 @@
 use Rattle.std.proofs.Common.{arith, ◌≡◌, ◌∙◌, ap, sym, subst}
 use Rattle.lk_reach.proofs.Names.{next, Machine, Setup, IsSound, IsSuch, IsBehind, IsHere}
-use Rattle.lk_reach.proofs.Names.{LeadsThere, IsMove, IsReached, after}
+use Rattle.lk_reach.proofs.Names.{AreFound, LeadsThere, MayLook, IsMove, IsReached, after}
 use Rattle.lk_reach.proofs.Closed as closed
 use Rattle.lk_reach.proofs.Folded as folded
 use Rattle.lk_reach.proofs.Left as left
@@ -49,11 +49,10 @@ fold_seen-requires c =
     ld.cpus ld.locks c.requires.ready.such in
     let made : IsSuch z m = subst (λ (q : Setup). IsSuch q m) ld.setup c.make-event.ensures.such in
     let back = sym made.setup in
-    let cpus = made.cpus in
-    let before = c.requires.ready.such.cpus in
-    let few = c.requires.ready.may.few in
+    let v = c.args.space.now in
     record {
-      few = omega (arith, cpus, before, few);
+      may = subst (λ (q : Setup). MayLook p v q) back c.requires.ready.may;
+      found = subst (λ (q : Setup). AreFound p q v c.args.self.now.findings.items) back c.requires.found;
       such = subst (λ (q : Setup). IsSuch q m) back made;
       here = subst (λ (q : Setup). IsHere p q c.args.space.now c.args.here.now) back h;
       folds = c.requires.folds;
