@@ -2,7 +2,7 @@
 
 ghost use Rattle.std.specs.Prelude.{◌≡◌, ◌<◌, ◌≤◌, OnOk, ℕ, Some, length, slice_get, true, false};
 ghost use Rattle.lk_names.specs.declared.events.Act.{Act as ActValue};
-ghost use Rattle.lk_reach.specs.Ends.{IsMarkedOnly, StaysAt};
+ghost use Rattle.lk_reach.specs.Ends.{StaysAt};
 ghost use Rattle.lk_reach.specs.Explored.{IsSuch, LeadsTo};
 ghost use Rattle.lk_reach.specs.Sights.{AreGoing, LeadsOn, LeadsOnBy, MayTry};
 
@@ -59,8 +59,9 @@ fn leads_by(space: &Space, plan: &Plan, machine: &mut Machine, state: usize, num
     differ(&behind, &before)
 }
 
-// Whether some act on a state changes what is seen of its processor.
-fn leads_on(space: &Space, plan: &Plan, machine: &mut Machine, state: usize) -> bool
+// Whether some act that led from a state to the number of another one changes what is seen of its
+// processor.
+fn leads_on(space: &Space, book: &Book, plan: &Plan, machine: &mut Machine, state: usize) -> bool
     requires few { length machine.old.cpus ≤ 8 }
     requires such { IsSuch machine.old.setup machine.old }
     requires may { MayTry plan.now machine.old.setup space.now }
@@ -69,7 +70,7 @@ fn leads_on(space: &Space, plan: &Plan, machine: &mut Machine, state: usize) -> 
     ensures such { IsSuch machine.old.setup machine.new }
 {
     for number in 0..plan.acts().len() {
-        if leads_by(space, plan, machine, state, number) {
+        if is_edge(book, state, number) && leads_by(space, plan, machine, state, number) {
             return true;
         }
     }
@@ -81,31 +82,6 @@ fn is_settled(book: &Book, marks: &Vec<bool>, state: usize) -> bool
     ensures { result ≡ true → slice_get marks.now.items state ≡ Some false → StaysAt book.now state }
 {
     is_marked(marks, state) || stays(book, state)
-}
-
-// Marks a state from which an act led to the number of another one.
-fn mark_leading(
-    space: &Space,
-    plan: &Plan,
-    machine: &mut Machine,
-    marks: &mut Vec<bool>,
-    state: usize,
-) -> Result<(), Memory>
-    requires few { length machine.old.cpus ≤ 8 }
-    requires such { IsSuch machine.old.setup machine.old }
-    requires may { MayTry plan.now machine.old.setup space.now }
-    requires there { state < length space.now.keys }
-    ensures marks { OnOk result (IsMarkedOnly marks.old.items marks.new.items state) }
-    ensures on { OnOk result (LeadsOn plan.now machine.old.setup space.now state) }
-    ensures such { IsSuch machine.old.setup machine.new }
-{
-    if !leads_on(space, plan, machine, state) {
-        // Such an act changes what is seen of its processor, so it does not come to this. That no two
-        // numbers have the same state is not claimed.
-        return Err(Memory);
-    }
-    mark(marks, state);
-    Ok(())
 }
 
 /// Marks each state from which an act leads on.
@@ -131,9 +107,15 @@ pub(crate) fn mark_going(
     ensures such { IsSuch machine.old.setup machine.new }
 {
     for state in 0..space.len() {
-        if !is_settled(book, marks, state) {
-            mark_leading(space, plan, machine, marks, state)?;
+        if is_settled(book, marks, state) {
+            continue;
         }
+        if !leads_on(space, book, plan, machine, state) {
+            // Such an act changes what is seen of its processor, so it does not come to this. That no two
+            // numbers have the same state is not claimed.
+            return Err(Memory);
+        }
+        mark(marks, state);
     }
     Ok(())
 }

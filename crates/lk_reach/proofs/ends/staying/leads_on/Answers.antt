@@ -2,6 +2,8 @@ use Rattle.std.proofs.Common.{arith, ap, get_or, length, sym, subst}
 use Rattle.lk_reach.proofs.Names.{slice_get-get_or, Setup, IsSuch}
 use Rattle.lk_reach.specs.Sights.{LeadsOnBy, MayTry}
 use Rattle.lk_names.specs.declared.events.Act.TheVariants as act
+use Rattle.lk_reach.proofs.ends.staying.leads_on.Goals.{else-is_edge-via-then-is_edge+else-leads_by}
+use Rattle.lk_reach.proofs.ends.staying.leads_on.Goals.{else-is_edge-via-else-is_edge}
 use Rattle.lk_reach.proofs.ends.staying.leads_on.Goals as goal
 
 pub leads_by-requires : goal.leads_by-requires
@@ -42,7 +44,12 @@ returns-then-leads_by c =
 
 pub loop-number-preserved : goal.loop-number-preserved
 loop-number-preserved c =
-    subst (λ (q : Setup). IsSuch q c.leads_by.new.machine) c.loop-number.invariant.setup c.leads_by.ensures.such
+    let inv = c.loop-number.invariant in
+    elim c.else-is_edge.branch [
+      | else-is_edge-via-then-is_edge+else-leads_by w ↦
+          rw w.machine-is (subst (λ (q : Setup). IsSuch q w.leads_by.new.machine) inv.setup w.leads_by.ensures.such)
+      | else-is_edge-via-else-is_edge w ↦ rw w.machine-is inv
+    ]
 
 pub returns : goal.returns
 returns c = record { on = λ yes. cc; such = c.loop-number.invariant }
