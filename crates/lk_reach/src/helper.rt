@@ -1,7 +1,7 @@
 // A helper: it tries acts on states with a machine of its own, beside others that do so, while nobody
 // writes down anything.
 
-ghost use Rattle.std.specs.Prelude.{◌≡◌, ◌<◌, ◌≤◌, IfOk, IfSome, length, true, false};
+ghost use Rattle.std.specs.Prelude.{◌≡◌, ◌<◌, ◌≤◌, IfOk, IfSome, length, true};
 ghost use Rattle.lk_rows.specs.Machine.{Machine as MachineValue};
 ghost use Rattle.lk_rows.specs.Programs.{IsLawfulSetup};
 ghost use Rattle.lk_idle.specs.Alike.{AreAlike};
@@ -114,30 +114,6 @@ impl Helper {
         }
     }
 
-    // Where an act leads from a state, and what it tells, where no states are folded.
-    fn try_plain(
-        &mut self,
-        space: &Space,
-        plan: &Plan,
-        here: &Here,
-        doing: Act,
-    ) -> Option<(Then, Option<Event>)>
-        requires ready { IsReady plan.now space.now self.old }
-        requires here { IsHere plan.now self.old.machine.setup space.now here.now }
-        requires moves { IsMove plan.now.extras self.old.machine.setup doing }
-        requires plain { plan.now.folds ≡ false }
-        ensures tried { IfSome result (λ t. IsTriedOn plan.now self.old.machine.setup space.now
-            here.now.spot.state doing t.0 t.1) }
-        ensures kept { StaysHelper space.now self.old self.new }
-    {
-        let _ = plan;
-        let led = lead(space, &mut self.machine, &mut self.steps, &here.spot, doing)?;
-        match self.seek(space, &led) {
-            Some(known) => Some((Then::Known(known), led.event)),
-            None => Some((Then::New(led.key), led.event)),
-        }
-    }
-
     // The fold of a state with this key, if an act on one of the last states led to it, too.
     fn fold_before(&self, key: &Key, hash: u64) -> Option<Key>
         ensures { IfSome result (λ fold. IsFoldFound self.now.findings.items key.now fold) }
@@ -200,29 +176,6 @@ impl Helper {
         Some(Then::Fold(key, fold))
     }
 
-    // Where an act leads from a state, and what it tells, where states are folded.
-    fn try_folded(
-        &mut self,
-        space: &Space,
-        plan: &Plan,
-        here: &Here,
-        doing: Act,
-    ) -> Option<(Then, Option<Event>)>
-        requires ready { IsReady plan.now space.now self.old }
-        requires here { IsHere plan.now self.old.machine.setup space.now here.now }
-        requires moves { IsMove plan.now.extras self.old.machine.setup doing }
-        requires folds { plan.now.folds ≡ true }
-        requires found { AreFound plan.now self.old.machine.setup space.now self.old.findings.items }
-        ensures tried { IfSome result (λ t. IsTriedOn plan.now self.old.machine.setup space.now
-            here.now.spot.state doing t.0 t.1) }
-        ensures kept { StaysHelper space.now self.old self.new }
-    {
-        space.load(here.spot.state, &mut self.machine);
-        let event = make(&mut self.machine, doing);
-        let then = self.fold_seen(space, plan, here, doing)?;
-        Some((then, event))
-    }
-
     // Where an act leads from a state, and what it tells, if each part of that was met.
     fn try_act(
         &mut self,
@@ -240,9 +193,15 @@ impl Helper {
         ensures kept { StaysHelper space.now self.old self.new }
     {
         if plan.folds {
-            self.try_folded(space, plan, here, doing)
-        } else {
-            self.try_plain(space, plan, here, doing)
+            space.load(here.spot.state, &mut self.machine);
+            let event = make(&mut self.machine, doing);
+            let then = self.fold_seen(space, plan, here, doing)?;
+            return Some((then, event));
+        }
+        let led = lead(space, &mut self.machine, &mut self.steps, &here.spot, doing)?;
+        match self.seek(space, &led) {
+            Some(known) => Some((Then::Known(known), led.event)),
+            None => Some((Then::New(led.key), led.event)),
         }
     }
 

@@ -4,7 +4,8 @@ use Rattle.lk_reach.proofs.Names.{AreFound, LeadsThere, MayLook, IsMove, IsReach
 use Rattle.lk_reach.proofs.Closed as closed
 use Rattle.lk_reach.proofs.Folded as folded
 use Rattle.lk_reach.proofs.Left as left
-use Rattle.lk_reach.proofs.helper.Helper.try_folded.Goals as goal
+use Rattle.lk_reach.proofs.apart.Helped as helped
+use Rattle.lk_reach.proofs.helper.Helper.try_act.Goals as goal
 
 pub load-requires-clause-there : goal.load-requires-clause-there
 load-requires-clause-there c =
@@ -55,7 +56,7 @@ fold_seen-requires c =
       found = subst (λ (q : Setup). AreFound p q v c.args.self.now.findings.items) back c.requires.found;
       such = subst (λ (q : Setup). IsSuch q m) back made;
       here = subst (λ (q : Setup). IsHere p q c.args.space.now c.args.here.now) back h;
-      folds = c.requires.folds;
+      folds = c.if-plan.true;
       moves = subst (λ (q : Setup). IsMove p.extras q c.args.doing) back c.requires.moves;
       behind = subst (λ (q : Setup). IsBehind p q c.args.space.now c.args.here.now c.args.doing m) back
           (λ s has reached.
@@ -64,8 +65,8 @@ fold_seen-requires c =
           c.make-event.ensures.after ∙ ap (λ (q : Machine). after q c.args.doing) same);
     }
 
-pub returns-clause-tried : goal.returns-clause-tried
-returns-clause-tried c =
+pub returns-then-plan-clause-tried : goal.returns-then-plan-clause-tried
+returns-then-plan-clause-tried c =
     let z = c.args.self.now.machine.setup in
     let p = c.args.plan.now in
     let h = c.requires.here in
@@ -88,4 +89,54 @@ returns-clause-tried c =
       tells = λ s has reached.
           let same : n ≡ s = left.loaded_is z v k n s ld.keeps such has (closed.reached_such folded.laws p z h.begun s reached) in
           c.make-event.ensures.event ∙ ap (λ (q : Machine). (next q c.args.doing).1) same;
+    }
+
+-- where no states are folded
+
+pub lead-requires-clause-range : goal.lead-requires-clause-range
+lead-requires-clause-range c =
+    closed.move_in_range c.args.plan.now.extras c.args.self.now.machine.setup c.args.doing c.requires.moves
+
+pub lead-requires-clause-spot : goal.lead-requires-clause-spot
+lead-requires-clause-spot c =
+    let p = c.args.plan.now in
+    let z = c.args.self.now.machine.setup in
+    let h = c.requires.here in
+    record {
+      stepped = record {
+        state = h.state;
+        keeps = h.keeps;
+        such = closed.reached_such folded.laws p z h.begun h.state h.reached;
+        sound = closed.reached_sound folded.laws p z h.begun h.state h.reached;
+      };
+      is = h.key;
+    }
+
+pub returns-in-Some-clause-tried : goal.returns-in-Some-clause-tried
+returns-in-Some-clause-tried c =
+    let p = c.args.plan.now in
+    let z = c.args.self.now.machine.setup in
+    let h = c.requires.here in
+    let a = c.args.doing in
+    let led = c.in_ok-led.ensures.led in
+    let e = c.in-Some.ensures in
+    record {
+      then = λ s has reached.
+          let there = closed.reached_then folded.laws p z h.begun s a reached c.requires.moves in
+          helped.is_known p z h.begun c.args.space.now c.args.here.now.spot.state s (after s a) has reached
+          (closed.reached_such folded.laws p z h.begun (after s a) there) c.in-Some.known
+          (c.requires.ready.may.good c.in-Some.known e.there)
+          (λ t keeps kind. e.alike t (after s a) keeps (led.then s has (closed.reached_such folded.laws p z h.begun s reached)) kind);
+      tells = λ s has reached. led.event s has (closed.reached_such folded.laws p z h.begun s reached);
+    }
+
+pub returns-in-None-clause-tried : goal.returns-in-None-clause-tried
+returns-in-None-clause-tried c =
+    let p = c.args.plan.now in
+    let z = c.args.self.now.machine.setup in
+    let h = c.requires.here in
+    let led = c.in_ok-led.ensures.led in
+    record {
+      then = λ s has reached. (c.if-plan.false, led.then s has (closed.reached_such folded.laws p z h.begun s reached));
+      tells = λ s has reached. led.event s has (closed.reached_such folded.laws p z h.begun s reached);
     }
