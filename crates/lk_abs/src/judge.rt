@@ -1,5 +1,5 @@
 // The judge of histories, one event at a time.
-ghost use Rattle.std.specs.Prelude.{◌≡◌, ◌≢◌, ℕ, ◌<◌, ◌≤◌, ◌*◌, ◌↔◌, [], ◌∷◌, ◌++◌, IfOk, OnOk, OnErr, IsOk, None, length, replicate};
+ghost use Rattle.std.specs.Prelude.{◌≡◌, ◌≢◌, ◌<◌, ◌≤◌, ◌*◌, ◌↔◌, [], ◌∷◌, ◌++◌, IfOk, OnOk, OnErr, IsOk, None, length, replicate};
 ghost use Rattle.std.specs.Result.{result_err};
 ghost use Rattle.lk_names.specs.Names.{lock_at, locks_from};
 ghost use Rattle.lk_names.specs.History.{no_history};

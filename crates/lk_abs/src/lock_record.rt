@@ -3,7 +3,6 @@
 ghost use Rattle.std.specs.Prelude.{◌≡◌, ◌<◌, ◌≤◌, IfOk, IfSome, length, OnOk, OnErr, None, slice_get};
 ghost use Rattle.std.specs.List.{list_any, position};
 ghost use Rattle.std.specs.Result.{result_err};
-ghost use Rattle.std.proofs.Common.{suc};
 ghost use Rattle.lk_names.specs.History.{no_history, is_hold, without, changed};
 ghost use Rattle.lk_abs.specs.Breaches.{holds, holds_so, is_queued, beside_first, beside, not_holder, twice, wrong_head, wrong_move, wrong_next, moved_over, over_threshold, first_breach};
 ghost use Rattle.lk_names.specs.Lawful.{writes};

@@ -1,6 +1,6 @@
 // The rules that a judge goes by.
-ghost use Rattle.std.specs.Prelude.{◌≡◌, ◌≤◌, ◌+◌, length, drop, slice_index_or};
-ghost use Rattle.lk_names.specs.Lawful.{movable, stays, is_local, is_far, lawful_moves};
+ghost use Rattle.std.specs.Prelude.{◌≡◌, ◌≤◌, ◌+◌, length, slice_index_or};
+ghost use Rattle.lk_names.specs.Lawful.{movable, stays, is_far, lawful_moves};
 
 use lk_names::{Format, List, Mode, Waiter};
 use std::marker::Model;

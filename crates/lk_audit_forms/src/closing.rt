@@ -1,5 +1,5 @@
 // The lines behind `go`.
-ghost use Rattle.std.specs.Prelude.{◌≡◌, ◌<◌, ◌≤◌};
+ghost use Rattle.std.specs.Prelude.{◌≡◌, ◌<◌};
 ghost use Rattle.lk_forms.specs.Texts.{count_name};
 ghost use Rattle.lk_audit_forms.specs.Parts.{words_left, spaced};
 ghost use Rattle.lk_audit_forms.specs.Closing.{end_args, open_words, count_line, line_told};

@@ -1,5 +1,5 @@
 // The parts of a line, and the numbers among them.
-ghost use Rattle.std.specs.Prelude.{◌≡◌, ◌==◌, ◌<◌, ◌≤◌, ◌^◌, ◌∷◌, [], IfSome, MatchOption, length};
+ghost use Rattle.std.specs.Prelude.{◌≡◌, ◌==◌, ◌<◌, ◌∷◌, [], MatchOption};
 ghost use Rattle.std.specs.List.{position};
 ghost use Rattle.std.specs.Option.{option_map};
 ghost use Rattle.lk_audit_forms.specs.Parts.{parts, words_left, shown, one_word, two_words, has_leading_zero, plain_number, small_number};

@@ -1,8 +1,8 @@
 // The operations of a program.
-ghost use Rattle.std.specs.Prelude.{◌≡◌, ◌≤◌, ◌<◌, ◌+◌, ◌++◌, ◌∷◌, [], ℕ, List, Option, IfSome, MatchOption, is_some, not, true, Some, None, ◌==◌, if◌then◌else◌, length, take, slice_get};
+ghost use Rattle.std.specs.Prelude.{◌≡◌, ◌≤◌, ◌<◌, ◌+◌, ◌++◌, ◌∷◌, [], Option, IfSome, MatchOption, is_some, not, true, Some, None, ◌==◌, if◌then◌else◌, length, take, slice_get};
 ghost use Rattle.std.specs.Option.{option_map};
 ghost use Rattle.lk_rows.specs.Programs.{kind_of, is_try, is_release, op_way, way_after, way_before};
-ghost use Rattle.lk_forms.specs.Operations.{verb_of, way_after_all, same_way, same_holds, try_at, same_kind, is_declared, is_crossed, fault_of_hold, op_of};
+ghost use Rattle.lk_forms.specs.Operations.{verb_of, way_after_all, same_way, same_holds, try_at, same_kind, is_declared, is_crossed, fault_of_hold};
 ghost use Rattle.lk_forms.specs.Holds.{manner_of};
 
 use crate::answers::Fault;

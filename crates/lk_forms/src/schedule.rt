@@ -1,10 +1,9 @@
 // The lines of a schedule.
-ghost use Rattle.std.specs.Prelude.{◌≡◌, ◌≢◌, ◌≤◌, ◌<◌, Bool, true, ℕ, List, Result, IfOk, Ok, Err, length, if◌then◌else◌};
+ghost use Rattle.std.specs.Prelude.{◌≡◌, ◌≢◌, ◌<◌, ℕ, List, Result, IfOk, Ok, Err, if◌then◌else◌};
 ghost use Rattle.lk_forms.specs.Words.{words};
 ghost use Rattle.lk_forms.specs.Operations.{and_then};
 ghost use Rattle.lk_forms.specs.Grammar.{one_word, cpu_word, step_line, schedule_args, reading_of};
-ghost use Rattle.lk_forms.specs.Schedule.{schedule_known, schedule_of, IsInSchedule, SaysNext, IsWithin};
-ghost use Rattle.lk_names.specs.declared.events.Act.TheVariants as act;
+ghost use Rattle.lk_forms.specs.Schedule.{schedule_of, IsInSchedule, SaysNext, IsWithin};
 
 use crate::answers::{Fault, LineRefusal, Sched};
 use crate::arguments::{cpu_word, no_words, number_in, one_word, run_of, two_words};

@@ -6,7 +6,7 @@ ghost use Rattle.lk_forms.specs.Words.{words};
 ghost use Rattle.lk_forms.specs.declared.limits.TheConstants.{MAX_LOCKS, MAX_WIDE_CPUS};
 ghost use Rattle.lk_forms.specs.Operations.{and_then, or_fault};
 ghost use Rattle.lk_forms.specs.declared.answers.Fault.TheVariants.{BadNumber};
-ghost use Rattle.lk_forms.specs.Grammar.{cpus_of, mode_of, mode_word, mode_line, most_cpus, cpus_line, numbers_from, sockets_line, threshold_line, spins_line, kind_named, kind_word, next_lock, lock_line, has_program, program_line, handler_line, irq_line};
+ghost use Rattle.lk_forms.specs.Grammar.{mode_of, mode_word, mode_line, most_cpus, cpus_line, numbers_from, sockets_line, threshold_line, spins_line, kind_named, kind_word, next_lock, lock_line, has_program, program_line, handler_line, irq_line};
 ghost use Rattle.lk_forms.specs.Agrees.{Agrees, IsAnswer, IsRoomy};
 
 use crate::answers::{Fault, LineRefusal, Which};

@@ -1,5 +1,5 @@
 // The tables of a setup: an item for each processor.
-ghost use Rattle.std.specs.Prelude.{◌≡◌, ℕ, IfOk, replicate};
+ghost use Rattle.std.specs.Prelude.{◌≡◌, IfOk, replicate};
 ghost use Rattle.lk_forms.specs.Grammar.{list_of, no_programs, no_handlers};
 
 use crate::limits::MAX_HANDLERS;

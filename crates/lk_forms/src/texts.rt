@@ -1,5 +1,5 @@
 // The lines of a transcript.
-ghost use Rattle.std.specs.Prelude.{◌≡◌, ◌≤◌, ◌<◌, ◌+◌, ◌++◌, [], ℕ, List, length, codes, decimal};
+ghost use Rattle.std.specs.Prelude.{◌≡◌, ◌≤◌, ◌<◌, ◌+◌, ◌++◌, length, codes};
 ghost use Rattle.lk_forms.specs.Texts.{lock_text, waiter_text, how_text, rw_text, owing_text, moved_text, what_text, event_text, end_text, count_name, count_at, count_text};
 ghost use Rattle.lk_text.specs.Line.{line_text};
 ghost use Rattle.lk_text.specs.Block.{waiting};

@@ -3,7 +3,7 @@
 ghost use Rattle.std.specs.Prelude.{◌≡◌, if◌then◌else◌, None, false};
 ghost use Rattle.lk_rows.specs.declared.parts.Why.TheVariants as whys;
 ghost use Rattle.lk_idle.specs.Lives.{lives_at, none_lives, tail_lives};
-ghost use Rattle.lk_idle.specs.Alike.{rested_frame, cut};
+ghost use Rattle.lk_idle.specs.Alike.{rested_frame};
 
 use lk_rows::{Frame, Pc, Why};
 use lk_word::NodeName;

@@ -4,7 +4,7 @@ ghost use Rattle.std.specs.List.{sum};
 ghost use Rattle.lk_names.specs.Jobs.{full};
 ghost use Rattle.lk_names.specs.declared.limits.TheConstants.{MAX_ACCOUNTS};
 ghost use Rattle.lk_forms.specs.Words.{words};
-ghost use Rattle.lk_job_forms.specs.Lines.{balances_from, balances_of, accounts_line};
+ghost use Rattle.lk_job_forms.specs.Lines.{balances_from, accounts_line};
 ghost use Rattle.lk_job_forms.specs.Draft.{work_of, Makes};
 
 use crate::draft::Draft;

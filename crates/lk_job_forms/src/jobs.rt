@@ -1,5 +1,5 @@
 // The lines of jobs.
-ghost use Rattle.std.specs.Prelude.{◌≡◌, ◌<◌, length};
+ghost use Rattle.std.specs.Prelude.{◌≡◌, ◌<◌};
 ghost use Rattle.lk_names.specs.Workload.{workers_of};
 ghost use Rattle.lk_forms.specs.Agrees.{IsAnswer};
 ghost use Rattle.lk_forms.specs.Words.{words};

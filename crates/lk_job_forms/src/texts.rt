@@ -1,5 +1,5 @@
 // The lines of an outcome.
-ghost use Rattle.std.specs.Prelude.{◌≡◌, ◌≤◌, ◌+◌, ◌++◌, length, codes};
+ghost use Rattle.std.specs.Prelude.{◌≡◌, ◌≤◌, ◌+◌, ◌++◌, length};
 ghost use Rattle.lk_text.specs.Line.{line_text};
 ghost use Rattle.lk_job_forms.specs.Texts.{job_text, reply_text, answered_text, entry_text, seen_text, balance_text, total_text};
 

@@ -1,5 +1,5 @@
 // The script of a job file: its lines are told to a reader, and nothing is written.
-ghost use Rattle.std.specs.Prelude.{◌≡◌, ◌≤◌, ◌++◌, ℕ, List, Ok, Err, Some, None, Option, IfOk, IfErr, OnOk, OnErr};
+ghost use Rattle.std.specs.Prelude.{◌≡◌, Ok, Err, Some, None, Option, IfOk};
 ghost use Rattle.lk_names.specs.Workload.{IsLawful, workload_of};
 ghost use Rattle.lk_job_forms.specs.Grammar.{nothing_read, has_end};
 ghost use Rattle.lk_job_forms.specs.Reader.{reading};

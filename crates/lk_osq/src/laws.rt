@@ -1,5 +1,4 @@
 // The laws, as clauses of functions that do nothing: who calls one may use its law.
-ghost use Rattle.std.specs.Prelude.{ℕ, List};
 ghost use Rattle.lk_osq.specs.RunLaws.{ActKeeps, RunKeeps, RestShows, RunsInParts};
 
 /// Each act of each processor keeps what a machine shows, and its event is lawful after the

@@ -1,5 +1,5 @@
 // The machine, and one act.
-ghost use Rattle.std.specs.Prelude.{◌≡◌, ◌<◌, ◌≤◌, ℕ, None, length, IfOk, map};
+ghost use Rattle.std.specs.Prelude.{◌≡◌, ◌<◌, ◌≤◌, None, length, IfOk, map};
 ghost use Rattle.lk_osq.specs.History.{Told, nothing_told};
 ghost use Rattle.lk_osq.specs.Machine.{Machine as MachineValue, cpu_at, set_cpu};
 ghost use Rattle.lk_osq.specs.Rows.{row, next_of, applied, stepped, given, next, IsIdle};

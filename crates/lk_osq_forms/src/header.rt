@@ -1,5 +1,5 @@
 // A header is read line by line.
-ghost use Rattle.std.specs.Prelude.{◌≡◌, ◌≤◌, ◌<◌, IfOk, Some, None, false};
+ghost use Rattle.std.specs.Prelude.{◌≡◌, ◌<◌, IfOk, Some, None, false};
 ghost use Rattle.lk_forms.specs.Words.{words};
 ghost use Rattle.lk_osq_forms.specs.Lines.{is_format};
 ghost use Rattle.lk_osq_forms.specs.Table.{IsTable};

@@ -1,5 +1,5 @@
 // The lines of a schedule.
-ghost use Rattle.std.specs.Prelude.{◌≡◌, ◌≢◌, ◌≤◌, IfOk, Err};
+ghost use Rattle.std.specs.Prelude.{◌≡◌, ◌≢◌, IfOk, Err};
 ghost use Rattle.lk_forms.specs.Words.{words};
 ghost use Rattle.lk_forms.specs.declared.answers.LineRefusal.{LineRefusal as Refusal};
 ghost use Rattle.lk_osq_forms.specs.Lines.{run_of, step_line, give_line, schedule_args, schedule_of};

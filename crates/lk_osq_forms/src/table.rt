@@ -1,7 +1,7 @@
 // The rounds of the processors.
-ghost use Rattle.std.specs.Prelude.{◌≡◌, ◌≤◌, ◌<◌, [], IfOk, length, replicate};
+ghost use Rattle.std.specs.Prelude.{◌≡◌, ◌≤◌, ◌<◌, IfOk, length, replicate};
 ghost use Rattle.lk_forms.specs.Words.{words};
-ghost use Rattle.lk_osq_forms.specs.Lines.{has_rounds, with_rounds, cpus_line, program_line, header_args};
+ghost use Rattle.lk_osq_forms.specs.Lines.{has_rounds, cpus_line, program_line, header_args};
 ghost use Rattle.lk_osq_forms.specs.Table.{IsTable, Makes};
 
 use crate::keyword::Keyword;

@@ -1,5 +1,5 @@
 // The script of the word `osq`: a header is read, and then acts are made.
-ghost use Rattle.std.specs.Prelude.{◌≡◌, ◌≤◌, ◌++◌, ℕ, List, Ok, Err, Some, None, Option, IfOk, IfErr, OnOk, OnErr};
+ghost use Rattle.std.specs.Prelude.{◌≡◌, Ok, Err, Some, None, Option, IfOk};
 ghost use Rattle.lk_osq_forms.specs.Grammar.{nothing_said};
 ghost use Rattle.lk_osq_replay.specs.Script.{Begins, acts_of};
 

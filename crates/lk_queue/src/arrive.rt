@@ -1,7 +1,6 @@
 // A waiter on its way into the queue, up to where it is the head; and a waiter without a node.
-ghost use Rattle.std.specs.Prelude.{◌≡◌, ◌≤◌, ◌^◌, ◌-◌, Some, None};
+ghost use Rattle.std.specs.Prelude.{◌≡◌, ◌^◌, ◌-◌, Some, None};
 ghost use Rattle.lk_rows.specs.Machine.{top_frame};
-ghost use Rattle.lk_rows.specs.Moves.{node_of};
 ghost use Rattle.lk_machine.specs.Ready.{IsReady, CountsWithin};
 ghost use Rattle.lk_rows.specs.Row.{count_all, with_rest};
 ghost use Rattle.lk_rows.specs.TopRow.{row, on_word};

@@ -2,7 +2,6 @@
 // making it.
 
 ghost use Rattle.std.specs.Prelude.{◌≡◌, ◌<◌, ◌≤◌, IfSome, length};
-ghost use Rattle.lk_names.specs.declared.events.Act.TheVariants as act;
 ghost use Rattle.lk_rows.specs.Acts.{processor_of};
 ghost use Rattle.lk_reach.specs.Explored.{IsSuch};
 ghost use Rattle.lk_reach.specs.Reach.{cpus_of};

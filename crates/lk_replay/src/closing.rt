@@ -1,8 +1,8 @@
 // The last lines of a transcript.
-ghost use Rattle.std.specs.Prelude.{◌≡◌, ◌++◌, OnOk, OnErr};
+ghost use Rattle.std.specs.Prelude.{◌++◌, OnOk, OnErr};
 ghost use Rattle.std.specs.Io.KnownBytes.{Appends};
 ghost use Rattle.lk_text.specs.Causes.{HasCause};
-ghost use Rattle.lk_text.specs.Bytes.{AppendsFront, Conveys};
+ghost use Rattle.lk_text.specs.Bytes.{AppendsFront};
 ghost use Rattle.lk_text.specs.Block.{waiting};
 ghost use Rattle.lk_forms.specs.Texts.{closing};
 

@@ -1,6 +1,6 @@
 // A replay behind its header. It reads a line of the schedule and makes its acts. Before it asks
 // the source for more lines it writes the events that wait.
-ghost use Rattle.std.specs.Prelude.{◌≡◌, ◌≤◌, ◌<◌, ◌++◌, ◌||◌, ℕ, List, [], Option, Ok, Err, true, IfOk, IfErr, OnOk, OnErr, length};
+ghost use Rattle.std.specs.Prelude.{◌≡◌, ◌≤◌, ◌<◌, ◌++◌, ◌||◌, ℕ, List, [], Option, Ok, Err, true, OnOk, OnErr, length};
 ghost use Rattle.lk_text.specs.Causes.{HasCause};
 ghost use Rattle.lk_text.specs.Bytes.{AppendsFront, Conveys};
 ghost use Rattle.lk_text.specs.Block.{waiting};

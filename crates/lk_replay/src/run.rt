@@ -4,7 +4,7 @@ ghost use Rattle.lk_text.specs.Causes.{HasCause};
 ghost use Rattle.lk_text.specs.Bytes.{AppendsFront, Conveys};
 ghost use Rattle.lk_text.specs.Block.{waiting};
 ghost use Rattle.lk_rows.specs.Programs.{IsLawfulSetup};
-ghost use Rattle.lk_rows.specs.Acts.{next, processor_of};
+ghost use Rattle.lk_rows.specs.Acts.{processor_of};
 ghost use Rattle.lk_rows.specs.Run.{occurs};
 ghost use Rattle.lk_forms.specs.Texts.{lines};
 

@@ -1,8 +1,5 @@
 // The lines of the schedule.
-ghost use Rattle.std.specs.Prelude.{◌≡◌, ◌≤◌, ℕ, List, [], Ok, None, true, false, IfOk, IfErr, IfSome, OnOk, OnErr};
-ghost use Rattle.lk_text.specs.Causes.{HasCause};
-ghost use Rattle.lk_text.specs.Bytes.{AppendsFront, Conveys};
-ghost use Rattle.lk_text.specs.Block.{waiting};
+ghost use Rattle.std.specs.Prelude.{◌≡◌, ◌≤◌, ℕ, List, Ok, None, true, IfOk, IfErr, IfSome};
 ghost use Rattle.lk_text.specs.Reader.{is_at_hand, is_ended, GaveLine, MetEnd, GaveFault};
 ghost use Rattle.lk_forms.specs.Schedule.{schedule_of};
 

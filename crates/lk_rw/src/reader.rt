@@ -3,7 +3,6 @@ ghost use Rattle.std.specs.Prelude.{◌≡◌, None, Some};
 ghost use Rattle.lk_rows.specs.Machine.{HasTop, top_frame, rw_at};
 ghost use Rattle.lk_rows.specs.TopRow.{row, on_rw};
 ghost use Rattle.lk_rows.specs.Row.{Done, event_of};
-ghost use Rattle.lk_machine.specs.Ready.{IsReady};
 ghost use Rattle.lk_rows.specs.rows.Rw.{admits, one_more};
 ghost use Rattle.lk_rw.specs.Row.{IsRwReady};
 

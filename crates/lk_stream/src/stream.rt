@@ -1,5 +1,5 @@
 // A text on its way through a script.
-ghost use Rattle.std.specs.Prelude.{◌≡◌, ◌≤◌, ◌<◌, ◌++◌, ◌^◌, [], ℕ, List, Option, None, Ok, Err, true, IfOk, IfErr, IfSome, OnOk, false, OnErr};
+ghost use Rattle.std.specs.Prelude.{◌≡◌, ◌≤◌, ◌<◌, [], ℕ, List, Option, None, Ok, Err, true, IfOk, IfErr, IfSome, OnOk, false, OnErr};
 ghost use Rattle.lk_text.specs.Causes.{HasCause};
 ghost use Rattle.lk_text.specs.Bytes.{AppendsFront, Conveys};
 ghost use Rattle.lk_text.specs.Block.{waiting};

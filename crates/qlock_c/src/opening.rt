@@ -1,5 +1,5 @@
 // New processors.
-ghost use Rattle.std.specs.Prelude.{◌≡◌, ◌≢◌, ◌≤◌, ◌⊎◌, IfOk, length, map, true};
+ghost use Rattle.std.specs.Prelude.{◌≡◌, ◌≢◌, ◌⊎◌, IfOk, length, map, true};
 ghost use Rattle.lk_domain.specs.declared.domain.Domain.{Domain};
 ghost use Rattle.lk_port.specs.Opened.{ArePortsOf};
 ghost use Rattle.qlock_c.specs.Opened.{AreEmpty, AreHandlesOf, AreOpen, ArePorts};

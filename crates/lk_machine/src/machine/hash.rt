@@ -1,7 +1,7 @@
 // The hash has the queue head's node for each lock that is entered. By it a release finds whom to
 // kick.
 
-ghost use Rattle.std.specs.Prelude.{◌≡◌, ◌<◌, ◌*◌, ◌^◌, true, is_some, length, Some, None};
+ghost use Rattle.std.specs.Prelude.{◌≡◌, ◌<◌, ◌*◌, true, is_some, length, Some, None};
 ghost use Rattle.lk_word.specs.declared.spin_word.Layout.TheVariants.{Wide};
 ghost use Rattle.lk_word.specs.SpinWord.{IsTailInRange};
 ghost use Rattle.lk_rows.specs.Machine.{entry_at, set_entry, lock_number};

@@ -1,6 +1,6 @@
 // The machine at rest.
 
-ghost use Rattle.std.specs.Prelude.{◌≡◌, ◌<◌, ◌≤◌, ◌*◌, [], ◌∷◌, IfOk, length, replicate, slice_get, vec_capacity};
+ghost use Rattle.std.specs.Prelude.{◌≡◌, ◌<◌, ◌≤◌, ◌*◌, [], ◌∷◌, IfOk, length, slice_get, vec_capacity};
 ghost use Rattle.std.specs.Int.{IsNextPowerOfTwo};
 ghost use Rattle.lk_rows.specs.Machine.{rest_node, rest_frame, rest_counts};
 ghost use Rattle.lk_rows.specs.Run.{first_frame, rest_cpu, rest_cpus, at_rest};
