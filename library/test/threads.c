@@ -3,6 +3,7 @@
  * equal whenever somebody looks. Built with -fsanitize=thread it tells a race on them too. In PV, which has
  * spinlocks alone, a thread sleeps while its processor has halted, or yields and polls, by turns: one that
  * nobody wakes stops the test, which is then killed. */
+#define _POSIX_C_SOURCE 200809L
 #include "qlock_sleep.h"
 #include <pthread.h>
 #include <sched.h>
@@ -17,6 +18,7 @@ static guarded data[2];
 static qlock_cpu cpus[MOST];
 static qlock_bed beds[MOST];
 static long turns, writes[MOST], sleeps[MOST];
+static pthread_barrier_t start;
 
 /* The library is not built for the sanitizer: tell it what the locks order. */
 #if defined(__SANITIZE_THREAD__)
@@ -95,6 +97,7 @@ static void read_turn(qlock_cpu *cpu, long turn, unsigned *times) {
 static void *runs(void *given) {
     qlock_cpu *cpu = given;
     unsigned times = 0;
+    pthread_barrier_wait(&start);
     for (long turn = 0; turn < turns; turn++) {
         spin_turn(cpu, turn, &times);
         if (turn % 4 == 0) {
@@ -137,26 +140,39 @@ static void halting_turn(qlock_cpu *cpu, long turn, unsigned *times) {
 static void *halts(void *given) {
     qlock_cpu *cpu = given;
     unsigned times = 0;
+    pthread_barrier_wait(&start);
     for (long turn = 0; turn < turns; turn++) {
         halting_turn(cpu, turn, &times);
     }
     return NULL;
 }
 
+/* Each thread has a processor. They begin together: on a busy machine one that begins by itself may be done before the
+ * next is there. */
+static void run_all(long threads, void *(*body)(void *)) {
+    pthread_t made[MOST];
+    MUST(pthread_barrier_init(&start, NULL, threads) == 0);
+    for (long i = 0; i < threads; i++) {
+        MUST(pthread_create(&made[i], NULL, body, &cpus[i]) == 0);
+    }
+    for (long i = 0; i < threads; i++) {
+        MUST(pthread_join(made[i], NULL) == 0);
+    }
+    MUST(pthread_barrier_destroy(&start) == 0);
+}
+
 /* Waiters spin for so many turns before they halt. */
 static void halting_runs(long threads, uint32_t spins) {
     static const uint8_t kinds[1] = {QLOCK_SPIN};
     uint32_t sockets[MOST] = {0};
-    pthread_t made[MOST];
     long slept = 0;
-    data[SPIN].a = data[SPIN].b = 0;
-    MUST(qlock_open(QLOCK_PV, kinds, 1, sockets, threads, spins, cpus, threads) == QLOCK_DONE);
     for (long i = 0; i < threads; i++) {
         sleeps[i] = 0;
-        MUST(pthread_create(&made[i], NULL, halts, &cpus[i]) == 0);
     }
+    data[SPIN].a = data[SPIN].b = 0;
+    MUST(qlock_open(QLOCK_PV, kinds, 1, sockets, threads, spins, cpus, threads) == QLOCK_DONE);
+    run_all(threads, halts);
     for (long i = 0; i < threads; i++) {
-        MUST(pthread_join(made[i], NULL) == 0);
         slept += sleeps[i];
         MUST(qlock_close(&cpus[i]) == QLOCK_DONE);
     }
@@ -167,7 +183,6 @@ static void halting_runs(long threads, uint32_t spins) {
 static void family_runs(uint32_t family, long threads) {
     static const uint8_t kinds[2] = {QLOCK_SPIN, QLOCK_RW};
     uint32_t sockets[MOST] = {0};
-    pthread_t made[MOST];
     long written = 0;
     for (long i = 0; i < threads; i++) {
         sockets[i] = i % 2;
@@ -175,11 +190,8 @@ static void family_runs(uint32_t family, long threads) {
     }
     data[SPIN].a = data[SPIN].b = data[RW].a = data[RW].b = 0;
     MUST(qlock_open(family, kinds, 2, sockets, threads, 16, cpus, threads) == QLOCK_DONE);
+    run_all(threads, runs);
     for (long i = 0; i < threads; i++) {
-        MUST(pthread_create(&made[i], NULL, runs, &cpus[i]) == 0);
-    }
-    for (long i = 0; i < threads; i++) {
-        MUST(pthread_join(made[i], NULL) == 0);
         written += writes[i];
         MUST(qlock_close(&cpus[i]) == QLOCK_DONE);
     }
