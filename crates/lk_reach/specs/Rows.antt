@@ -7,6 +7,10 @@ use Rattle.lk_reach.specs.declared.key.Key.{Key}
 use Rattle.lk_reach.specs.Reach.{MakesRow}
 use Rattle.lk_reach.specs.Space.{SpaceValue, Keeps}
 
+-- each row that a step makes on the first state, one makes on the other
+abbrev pub MakesNoOther : Machine → Machine → Type 0
+MakesNoOther s t = (row : Pc) → MakesRow s row → MakesRow t row
+
 -- a step makes the row at one of the states
 pub record IsMade (v : SpaceValue) (cpus : ℕ) (row : Pc) : Type 0 where
   pub state : ℕ

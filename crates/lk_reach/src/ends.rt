@@ -1,9 +1,12 @@
 // How the states of a graph end: finished, stuck or doomed.
 
-ghost use Rattle.std.specs.Prelude.{◌≡◌, ◌≢◌, ℕ, IfOk, Some, slice_get, true, false};
+ghost use Rattle.std.specs.Prelude.{◌≡◌, ◌≢◌, ◌<◌, ◌≤◌, ℕ, IfOk, Some, length, slice_get, true, false};
+ghost use Rattle.lk_rows.specs.Machine.{Machine as MachineValue};
 ghost use Rattle.lk_reach.specs.Ends.{AreDoomed, AreEnds, AreFinishing, AreStuck, AreTurned, IsClosed, IsMarkedOnly, IsPassed, IsReloaded, LeadsMarked};
 ghost use Rattle.lk_reach.specs.Explored.{LeadsTo};
+ghost use Rattle.lk_reach.specs.Rows.{MakesNoOther};
 ghost use Rattle.lk_reach.specs.Sights.{AreGoing, LeadsOn};
+ghost use Rattle.lk_reach.specs.Space.{Keeps};
 ghost use Rattle.lk_reach.specs.Told.{IsGraph, IsWhole};
 
 mod lost;
@@ -76,25 +79,60 @@ impl Graph {
         Ok(marks)
     }
 
-    // Whether an act led from a state to one at which other rows are made.
+    // Whether some processor makes a row at a state that none makes at another one.
+    fn makes_new(&self, state: usize, other: usize) -> bool
+        requires there { state < length self.now.space.keys }
+        requires other { other < length self.now.space.keys }
+        requires few { self.now.cpus ≤ 8 }
+        ensures { result ≡ true → (s t : MachineValue) → Keeps self.now.space state s
+            → Keeps self.now.space other t → length s.cpus ≡ self.now.cpus
+            → length t.cpus ≡ self.now.cpus → ¬ MakesNoOther s t }
+    {
+        for cpu in 0..self.cpus {
+            if let Some(row) = self.space.row_at(state, cpu) {
+                if !self.makes(other, row) {
+                    return true;
+                }
+            }
+        }
+        false
+    }
+
+    // Whether one of two states has a row that some processor makes, and the other has not.
+    fn make_others(&self, state: usize, other: usize) -> bool
+        requires there { state < length self.now.space.keys }
+        requires other { other < length self.now.space.keys }
+        requires few { self.now.cpus ≤ 8 }
+        ensures { result ≡ true → (s t : MachineValue) → Keeps self.now.space state s
+            → Keeps self.now.space other t → length s.cpus ≡ self.now.cpus
+            → length t.cpus ≡ self.now.cpus → MakesNoOther s t → MakesNoOther t s → ⊥ }
+    {
+        self.makes_new(other, state) || self.makes_new(state, other)
+    }
+
+    // Whether an act led from a state to one at which other rows are made. Where states are folded, the
+    // same processors may have other numbers there. So it goes by which rows are made, and not by whom.
     fn shows_edge(&self, state: usize, act: usize) -> bool
         requires graph { IsGraph self.now }
-        requires plain { self.now.plan.folds ≡ false }
         ensures { result ≡ true → LeadsOn self.now.plan self.now.machine.setup self.now.space state }
     {
-        match self.book.then(state, act) {
-            Some(then) => {
-                let then = then as usize;
-                then != state && self.space.makes_other(state, then, self.cpus)
-            }
-            None => false,
+        let Some(then) = self.book.then(state, act) else {
+            return false;
+        };
+        let then = then as usize;
+        if then == state {
+            return false;
+        }
+        if self.plan.folds {
+            self.make_others(state, then)
+        } else {
+            self.space.makes_other(state, then, self.cpus)
         }
     }
 
     // Whether some act led from a state to one at which other rows are made.
     fn shows_going(&self, state: usize) -> bool
         requires graph { IsGraph self.now }
-        requires plain { self.now.plan.folds ≡ false }
         ensures { result ≡ true → LeadsOn self.now.plan self.now.machine.setup self.now.space state }
     {
         for act in 0..self.book.acts() {
@@ -109,7 +147,6 @@ impl Graph {
     // from which one leads on.
     fn mark_shown(&self, marks: &mut Vec<bool>)
         requires graph { IsGraph self.now }
-        requires plain { self.now.plan.folds ≡ false }
         requires going { AreGoing self.now.plan self.now.machine.setup self.now.space marks.old.items }
         ensures { AreGoing self.now.plan self.now.machine.setup self.now.space marks.new.items }
     {
@@ -120,17 +157,13 @@ impl Graph {
     }
 
     // Marks each state at which every processor is done, or from which an act led to one at which other
-    // rows are made. Where states are folded only the first: other rows may be the same ones under
-    // other numbers.
+    // rows are made.
     fn shown(&self, alloc: Global) -> Result<Vec<bool>, Memory>
         requires graph { IsGraph self.now }
         ensures { IfOk result (λ marks. AreGoing self.now.plan self.now.machine.setup self.now.space
             marks.items) }
     {
         let mut marks = self.finished(alloc)?;
-        if self.plan.folds {
-            return Ok(marks);
-        }
         self.mark_shown(&mut marks);
         Ok(marks)
     }

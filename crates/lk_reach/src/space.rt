@@ -431,8 +431,8 @@ impl Space {
         ensures { (s : MachineValue) → Keeps self.now state s → cpu < length s.cpus
             → result ≡ row_of (cpu_at s cpu) }
     {
-        let key = self.keys.at(state);
-        let part = self.parts.items.get(key.part(cpu))?;
+        let number = self.keys.part(state, cpu);
+        let part = self.parts.items.get(number)?;
         part.next_row()
     }
 

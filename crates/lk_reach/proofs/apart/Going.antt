@@ -2,15 +2,16 @@
 use Rattle.std.proofs.Common.{◌≡◌, ◌<◌, ◌+◌, ◌-◌, ◌∙◌, ℕ, List, Bool, Some, false, length, ap, sym}
 use Rattle.std.proofs.Common.{subst, arith, inl, inr, slice_get}
 use Rattle.lk_reach.proofs.Names.{cases_eq, length-map, slice_get_within, Act, CpuState, Machine}
-use Rattle.lk_reach.proofs.Names.{top_frame, Setup, IsSound, AreAlike, bared, rested_frame}
+use Rattle.lk_reach.proofs.Names.{top_frame, Setup, IsSound, AreAlike, rested_frame}
 use Rattle.lk_reach.proofs.Names.{IsMarkedOnly, StaysAt, IsStepped, LeadsTo, IsReached, after}
-use Rattle.lk_reach.proofs.Names.{AreGoing, Keeps, SpaceValue, IsGraph, Book, Graph, Plan}
+use Rattle.lk_reach.proofs.Names.{AreGoing, Keeps, SpaceValue, IsGraph, Book, Graph, Plan, StandsFor}
 use Rattle.lk_rows.specs.Machine.{HasTop, cpu_at, depth_at, preempted_at, halted_at, kicked_at}
 use Rattle.lk_rows.specs.{Machine.handlers_at, Programs.{HasPrograms, handlers_of}}
 use Rattle.lk_idle.proofs.Goes.{top-bared}
 use Rattle.lk_reach.proofs.Closed.{reached_sound, reached_such, reached_then, same_state}
-use Rattle.lk_reach.proofs.{Columns.leads_low, Ending.led, Folded.laws, Likeness.cpu_alike}
-use Rattle.lk_reach.specs.{Ends.AreEnds, Sights.{LeadsOn, MayTry, sight_of}}
+use Rattle.lk_reach.proofs.{Columns.leads_low, Ending.led, Likeness.{cpu_alike, makes_alike}}
+use Rattle.lk_reach.proofs.Folded.{laws, makes_stands, stands_back}
+use Rattle.lk_reach.specs.{Ends.AreEnds, Rows.MakesNoOther, Sights.{LeadsOn, MayTry, sight_of}}
 
 pub sight_alike : (s t : Machine) → AreAlike s t → (p : ℕ) → sight_of s p ≡ sight_of t p
 unfolding depth_at preempted_at halted_at kicked_at handlers_at
@@ -107,10 +108,33 @@ going_ends g marks ends = record {
 }
 
 -- an act led to a number at whose state other rows are made
-module _ (g : Graph) (is : IsGraph g) (plain : g.plan.folds ≡ false) where
-  pub shown : (k i j : ℕ) → LeadsTo g.book k i j
+module _ (g : Graph) (is : IsGraph g) where
+  -- what one of these numbers keeps is like nothing for which stands what the other keeps
+  pub AreApart : ℕ → ℕ → Type 0
+  AreApart k j = (s t u : Machine) → Keeps g.space k s → Keeps g.space j t → length s.cpus ≡ g.cpus
+      → length t.cpus ≡ g.cpus → IsReached g.plan g.machine.setup t → IsReached g.plan g.machine.setup u
+      → StandsFor g.plan g.machine.setup t u → ¬ AreAlike u s
+
+  pub apart_folded : (k j : ℕ)
+      → ((s t : Machine) → Keeps g.space k s → Keeps g.space j t → length s.cpus ≡ g.cpus → length t.cpus ≡ g.cpus
+      → MakesNoOther s t → MakesNoOther t s → ⊥)
+      → AreApart k j
+  unfolding AreApart
+  apart_folded k j apart s t u keeps kept count counts one other stands alike =
+      let back = stands_back g.plan g.machine.setup is.begun t u one stands in
+      apart s t keeps kept count counts
+      (λ row x. makes_stands g.plan g.machine.setup is.begun t u one other stands row (makes_alike s u (sym alike) row x))
+      (λ row x. makes_alike u s alike row (makes_stands g.plan g.machine.setup is.begun u t other one back row x))
+
+  pub apart_plain : g.plan.folds ≡ false → (k j : ℕ)
       → ((s t : Machine) → Keeps g.space k s → Keeps g.space j t → length s.cpus ≡ g.cpus → length t.cpus ≡ g.cpus → ¬ AreAlike t s)
-      → LeadsOn g.plan g.machine.setup g.space k
+      → AreApart k j
+  unfolding AreApart
+  apart_plain plain k j apart s t u keeps kept count counts one other stands alike =
+      apart s t keeps kept count counts (stands.plain plain ∙ alike)
+
+  pub shown : (k i j : ℕ) → LeadsTo g.book k i j → AreApart k j → LeadsOn g.plan g.machine.setup g.space k
+  unfolding AreApart
   shown k i j leads apart =
       let l = led laws g is k i j leads in
       let like = l.leads in
@@ -121,9 +145,10 @@ module _ (g : Graph) (is : IsGraph g) (plain : g.plan.folds ≡ false) where
         move = move;
         other = λ s keeps reached alike.
             let same : l.state ≡ s = same_state laws g.plan g.machine.setup is.begun g.space k l.state s l.is.keeps keeps l.is.reached reached in
-            apart s like.state keeps like.keeps ((such s reached).cpus ∙ sym is.cpus)
-            ((such like.state like.reached).cpus ∙ sym is.cpus)
-            (like.stands.plain plain ∙ ap (λ (m : Machine). bared (after m l.act)) same ∙ alike);
+            apart s like.state (after s l.act) keeps like.keeps ((such s reached).cpus ∙ sym is.cpus)
+            ((such like.state like.reached).cpus ∙ sym is.cpus) like.reached
+            (reached_then laws g.plan g.machine.setup is.begun s l.act reached move)
+            (subst (λ (z : Machine). StandsFor g.plan g.machine.setup like.state (after z l.act)) same like.stands) alike;
       }
 
   pub within : (k i j : ℕ) → LeadsTo g.book k i j → (k < length g.space.keys) × (j < length g.space.keys)
