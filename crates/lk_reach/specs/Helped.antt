@@ -19,7 +19,7 @@ use Rattle.lk_reach.specs.Explored.{IsGood, IsSuch, KeepsLike, OnlyMoves}
 use Rattle.lk_reach.specs.Folded.{Fits, HaveFolds}
 use Rattle.lk_reach.specs.Path.{AreLow, IsPath}
 use Rattle.lk_reach.specs.Reach.{AreMoves, IsBegun, IsReached, after, state_after}
-use Rattle.lk_reach.specs.Space.{Folds, Grows, IsSameKind, Keeps, KeyKeeps, SpaceValue}
+use Rattle.lk_reach.specs.Space.{Grows, IsLikeFold, IsLikeKey, Keeps, KeyKeeps, SpaceValue}
 use Rattle.lk_reach.specs.Steps.{AreMade}
 
 -- The state of this number stands for the machine, to which an act led from the state s of number left. If it is
@@ -141,7 +141,7 @@ pub record HasLooked (plan : Plan) (v : SpaceValue) (old new : Helper) : Type 0 
 -- number is this one
 pub record IsKeyNoted (old new : SpaceValue) (key : Key) (k : ℕ) : Type 0 where
   pub there : k < length new.keys
-  pub alike : (s t : Machine) → Keeps new k s → KeyKeeps new.parts new.shareds key t → IsSameKind s t → AreAlike s t
+  pub alike : IsLikeKey new k key
   pub grows : Grows old new
   pub one : (j : ℕ) → length old.keys ≤ j → j < length new.keys → (j ≡ k) × (slice_get new.keys j ≡ Some key)
 
@@ -150,7 +150,7 @@ pub record IsKeyNoted (old new : SpaceValue) (key : Key) (k : ℕ) : Type 0 wher
 pub record IsFoldNoted (old new : SpaceValue) (key fold : Key) (left k : ℕ) : Type 0 where
   pub there : k < length new.keys
   pub other : k ≢ left
-  pub alike : (s t : Machine) → Folds new k s → KeyKeeps new.parts new.shareds fold t → IsSameKind s t → AreAlike s t
+  pub alike : IsLikeFold new k fold
   pub grows : Grows old new
   pub parts : new.parts ≡ old.parts
   pub shareds : new.shareds ≡ old.shareds

@@ -2,7 +2,7 @@
 use Rattle.std.specs.Prelude.{◌≡◌, ◌≢◌, ◌<◌, ◌≤◌, ◌⊎◌, ◌++◌, ◌∷◌, [], ℕ, List, length, slice_get, Some}
 use Rattle.lk_rows.specs.Machine.{Machine, CpuState, cpu_at, set_cpu}
 use Rattle.lk_machine.specs.Parts.{SharedValue, Holds}
-use Rattle.lk_idle.specs.Alike.{bared_cpu}
+use Rattle.lk_idle.specs.Alike.{AreAlike, bared_cpu}
 use Rattle.lk_reach.specs.declared.key.Key.{Key}
 
 -- the list goes on as another
@@ -86,6 +86,14 @@ pub record IsSameKind (s m : Machine) : Type 0 where
   pub setup : s.setup ≡ m.setup
   pub counts : s.counts ≡ m.counts
   pub cpus : length s.cpus ≡ length m.cpus
+
+-- the state of this number and what has this key are alike
+abbrev pub IsLikeKey : SpaceValue → ℕ → Key → Type 0
+IsLikeKey v k key = (s t : Machine) → Keeps v k s → KeyKeeps v.parts v.shareds key t → IsSameKind s t → AreAlike s t
+
+-- the fold of the state of this number and what has this key are alike
+abbrev pub IsLikeFold : SpaceValue → ℕ → Key → Type 0
+IsLikeFold v k fold = (s t : Machine) → Folds v k s → KeyKeeps v.parts v.shareds fold t → IsSameKind s t → AreAlike s t
 
 -- the number is that of a state to which the machine can be set: it has as many processors and locks
 pub record IsLoadable (v : SpaceValue) (k : ℕ) (m : Machine) : Type 0 where

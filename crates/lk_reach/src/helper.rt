@@ -4,14 +4,13 @@
 ghost use Rattle.std.specs.Prelude.{◌≡◌, ◌<◌, ◌≤◌, IfOk, IfSome, length, true};
 ghost use Rattle.lk_rows.specs.Machine.{Machine as MachineValue};
 ghost use Rattle.lk_rows.specs.Programs.{IsLawfulSetup};
-ghost use Rattle.lk_idle.specs.Alike.{AreAlike};
 ghost use Rattle.lk_reach.specs.Copies.{tight_setup};
 ghost use Rattle.lk_reach.specs.declared.found.Then.TheVariants as then;
 ghost use Rattle.lk_reach.specs.Explored.{IsSuch};
 ghost use Rattle.lk_reach.specs.Folded.{IsBehind, IsHere};
 ghost use Rattle.lk_reach.specs.Helped.{AreFound, HasLooked, IsFoldFound, IsFound, IsFresh, IsReady, IsSent, IsTriedOn, LeadsThere, MayKeep, MayLook, StaysHelper};
 ghost use Rattle.lk_reach.specs.Reach.{IsMove, IsReached};
-ghost use Rattle.lk_reach.specs.Space.{IsSameKind, Keeps, KeyKeeps};
+ghost use Rattle.lk_reach.specs.Space.{IsLikeKey, Keeps};
 
 use crate::book::Book;
 use crate::copies::copy_of;
@@ -104,8 +103,7 @@ impl Helper {
     // The number of a state with this key, or of one of the same form, if it is sought and was met.
     fn seek(&self, space: &Space, led: &Led) -> Option<u32>
         ensures there { IfSome result (λ k. k < length space.now.keys) }
-        ensures alike { IfSome result (λ k. (s t : MachineValue) → Keeps space.now k s
-            → KeyKeeps space.now.parts space.now.shareds led.now.key t → IsSameKind s t → AreAlike s t) }
+        ensures alike { IfSome result (λ k. IsLikeKey space.now k led.now.key) }
     {
         if self.seeks {
             space.known(&led.key, led.hash)

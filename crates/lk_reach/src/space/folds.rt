@@ -5,7 +5,7 @@ ghost use Rattle.std.specs.Prelude.{◌≡◌, ◌≢◌, ◌<◌, ◌≤◌, If
 ghost use Rattle.lk_rows.specs.Machine.{Machine as MachineValue};
 ghost use Rattle.lk_idle.specs.Alike.{AreAlike};
 ghost use Rattle.lk_reach.specs.Helped.{IsFoldNoted};
-ghost use Rattle.lk_reach.specs.Space.{AddsFold, Folds, Grows, IsFolded, IsFoldNumbered, IsFoldOf, IsNumberOf, IsSameKind, Keeps, KeyKeeps};
+ghost use Rattle.lk_reach.specs.Space.{AddsFold, Folds, Grows, IsFolded, IsFoldNumbered, IsFoldOf, IsLikeFold, IsLikeKey, IsNumberOf, IsSameKind};
 
 use crate::key::Key;
 use crate::slots::Slots;
@@ -94,8 +94,7 @@ impl Space {
     /// is found. The state `near` is tried first.
     pub(crate) fn like(&self, near: usize, key: &Key) -> Option<u32>
         ensures there { IfSome result (λ k. k < length self.now.keys) }
-        ensures alike { IfSome result (λ k. (s t : MachineValue) → Keeps self.now k s
-            → KeyKeeps self.now.parts self.now.shareds key.now t → IsSameKind s t → AreAlike s t) }
+        ensures alike { IfSome result (λ k. IsLikeKey self.now k key.now) }
     {
         self.formed();
         let number = self.find_own(near, key)?;
@@ -142,8 +141,7 @@ impl Space {
     pub(crate) fn known_fold(&self, fold: &Key, left: usize) -> Option<u32>
         ensures there { IfSome result (λ k. k < length self.now.folds) }
         ensures other { IfSome result (λ k. k ≢ left) }
-        ensures alike { IfSome result (λ k. (s t : MachineValue) → Folds self.now k s
-            → KeyKeeps self.now.parts self.now.shareds fold.now t → IsSameKind s t → AreAlike s t) }
+        ensures alike { IfSome result (λ k. IsLikeFold self.now k fold.now) }
     {
         self.formed();
         let number = self.find_fold(fold, left)?;

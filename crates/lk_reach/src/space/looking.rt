@@ -1,10 +1,8 @@
 // What can be said of a machine by those who only look at the states that were met.
 
 ghost use Rattle.std.specs.Prelude.{◌≡◌, ◌<◌, ◌≤◌, IfOk, IfSome, Some, length};
-ghost use Rattle.lk_rows.specs.Machine.{Machine as MachineValue};
-ghost use Rattle.lk_idle.specs.Alike.{AreAlike};
 ghost use Rattle.lk_reach.specs.Helped.{IsKeyNoted};
-ghost use Rattle.lk_reach.specs.Space.{IsNumbered, IsNumberOf, IsSameKind, Keeps, KeyKeeps};
+ghost use Rattle.lk_reach.specs.Space.{IsLikeKey, IsNumbered, IsNumberOf, KeyKeeps};
 
 use crate::key::Key;
 use crate::space::Space;
@@ -35,8 +33,7 @@ impl Space {
     /// its hash, if it was met.
     pub(crate) fn known(&self, key: &Key, hash: u64) -> Option<u32>
         ensures there { IfSome result (λ k. k < length self.now.keys) }
-        ensures alike { IfSome result (λ k. (s t : MachineValue) → Keeps self.now k s
-            → KeyKeeps self.now.parts self.now.shareds key.now t → IsSameKind s t → AreAlike s t) }
+        ensures alike { IfSome result (λ k. IsLikeKey self.now k key.now) }
     {
         self.formed();
         let number = self.find(key, hash)?;
