@@ -30,9 +30,7 @@ impl Recent {
     // Empties the slots.
     fn clear(&mut self) {
         self.count = 0;
-        for at in 0..self.slots.len() {
-            self.slots[at] = 0;
-        }
+        self.slots.as_mut_slice().fill(0);
     }
 
     /// Forgets all, and makes room for others.

@@ -67,9 +67,7 @@ impl Slots {
     ///
     /// There is not enough memory. The slots are empty then, too.
     pub(crate) fn widen(&mut self) -> Result<(), Memory> {
-        for at in 0..self.slots.len() {
-            self.slots[at] = 0;
-        }
+        self.slots.as_mut_slice().fill(0);
         let more = self.slots.len() / 2;
         self.add(more)
     }

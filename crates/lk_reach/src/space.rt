@@ -131,7 +131,7 @@ impl Space {
     }
 
     // The key of a state that may be met, or the key of none.
-    #[inline]
+    #[inline(always)]
     fn near(&self, state: usize) -> Key {
         match self.keys.get(state) {
             Some(key) => key,
@@ -304,33 +304,32 @@ impl Space {
         self.find_in(&self.slots, key, hash)
     }
 
-    // By which key the state of this number is sought.
-    fn sought_key(&self, number: usize) -> Key
-        requires { number < length self.now.keys }
-    {
+    // The hash of a state's own key, or of its fold, if it has one and not its own is asked for.
+    #[inline(always)]
+    fn hash_at(&self, number: usize, own: bool) -> u64 {
         match self.folds.get(number) {
-            Some(fold) => fold,
-            None => self.keys.at(number),
+            Some(fold) if !own => self.hash_of(&fold),
+            _ => self.hash_of(&self.near(number)),
         }
     }
 
-    // Gives each state one of these slots, which are empty.
-    fn fill(&self, slots: &mut Slots) {
+    // These slots and more, in which each state has one by that hash.
+    fn widened(&self, mut slots: Slots, own: bool) -> Result<Slots, Memory> {
+        slots.widen()?;
         let mut number = 0u32;
         for at in 0..self.len() {
-            slots.put(self.hash_of(&self.sought_key(at)), number);
+            slots.put(self.hash_at(at, own), number);
             number = number.wrapping_add(1);
         }
+        Ok(slots)
     }
 
     // Gives each state a slot again, of more.
     fn grow(&mut self) -> Result<(), Memory>
         ensures { self.new ≡ self.old }
     {
-        let mut slots = mem::replace(&mut self.slots, Slots::none(self.alloc));
-        slots.widen()?;
-        self.fill(&mut slots);
-        self.slots = slots;
+        let slots = mem::replace(&mut self.slots, Slots::none(self.alloc));
+        self.slots = self.widened(slots, false)?;
         Ok(())
     }
 
@@ -375,6 +374,7 @@ impl Space {
 
     // The number of the state with this key or of one of its form, by its hash. It gets one if there is
     // none.
+    #[inline]
     fn number(&mut self, key: &Key, hash: u64) -> Result<u32, Memory>
         ensures { IfOk result (λ k. IsNumbered self.old self.new key.now k) }
     {

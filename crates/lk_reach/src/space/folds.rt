@@ -25,12 +25,12 @@ impl Space {
         }
     }
 
-    // The number of a state, other than the one that is left, whose fold has the form of this one.
-    fn find_fold(&self, fold: &Key, left: usize) -> Option<u32>
+    // The number of a state, other than the one that is left, whose fold has the form of this one, by its
+    // hash.
+    fn find_fold(&self, fold: &Key, hash: u64, left: usize) -> Option<u32>
         ensures fold { IfSome result (λ k. IsFoldOf self.now k fold.now) }
         ensures other { IfSome result (λ k. k ≢ left) }
     {
-        let hash = self.hash_of(fold);
         let mut at = self.slots.home(hash);
         for _ in 0..self.slots.len() {
             let slot = self.slots.get(at)?;
@@ -46,23 +46,12 @@ impl Space {
         None
     }
 
-    // Gives each state one of these slots, which are empty, by its own key.
-    fn fill_owns(&self, owns: &mut Slots) {
-        let mut number = 0u32;
-        for at in 0..self.len() {
-            owns.put(self.hash_of(&self.near(at)), number);
-            number = number.wrapping_add(1);
-        }
-    }
-
     // Gives each state a slot by its own key again, of more.
     fn grow_owns(&mut self) -> Result<(), Memory>
         ensures { self.new ≡ self.old }
     {
-        let mut owns = mem::replace(&mut self.owns, Slots::none(self.alloc));
-        owns.widen()?;
-        self.fill_owns(&mut owns);
-        self.owns = owns;
+        let owns = mem::replace(&mut self.owns, Slots::none(self.alloc));
+        self.owns = self.widened(owns, true)?;
         Ok(())
     }
 
@@ -108,13 +97,13 @@ impl Space {
         self.folds.push(fold)
     }
 
-    // Gives the state with this key the next number, and its fold.
-    fn add_fold(&mut self, key: &Key, fold: &Key) -> Result<u32, Memory>
+    // Gives the state with this key the next number, and its fold, which has this hash.
+    fn add_fold(&mut self, key: &Key, fold: &Key, hash: u64) -> Result<u32, Memory>
         requires { length self.old.folds ≡ length self.old.keys }
         ensures { IfOk result (λ k. IsFolded self.old self.new key.now fold.now k) }
     {
         self.make_room()?;
-        let number = self.push(key, self.hash_of(fold))?;
+        let number = self.push(key, hash)?;
         self.put_own(key, number)?;
         self.push_fold(fold)?;
         Ok(number)
@@ -127,10 +116,11 @@ impl Space {
         requires folds { length self.old.folds ≡ length self.old.keys }
         ensures { IfOk result (λ k. IsFoldNumbered self.old self.new key.now fold.now left k) }
     {
-        match self.find_fold(fold, left) {
+        let hash = self.hash_of(fold);
+        match self.find_fold(fold, hash, left) {
             Some(number) => Ok(number),
             None => {
-                let number = self.add_fold(key, fold)?;
+                let number = self.add_fold(key, fold, hash)?;
                 Ok(number)
             }
         }
@@ -144,7 +134,7 @@ impl Space {
         ensures alike { IfSome result (λ k. IsLikeFold self.now k fold.now) }
     {
         self.formed();
-        let number = self.find_fold(fold, left)?;
+        let number = self.find_fold(fold, self.hash_of(fold), left)?;
         Some(number)
     }
 

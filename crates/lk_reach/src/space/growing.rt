@@ -6,9 +6,8 @@ ghost use Rattle.std.specs.Prelude.{◌≡◌, ◌<◌};
 use crate::helpers::Part;
 use crate::slots::Slots;
 use crate::space::Space;
-use lk_names::Memory;
+use std::thread;
 use std::thread::Threads;
-use std::{mem, thread};
 
 // Gives numbers from this one on slots by their hashes. Returns the number behind the last.
 fn put_hashes(slots: &mut Slots, hashes: &Vec<u64>, from: u32) -> u32 {
@@ -28,6 +27,14 @@ fn put_all(slots: &mut Slots, parts: &Vec<Vec<u64>>) {
     }
 }
 
+// Gives all numbers slots again, and more slots if there is memory for more.
+fn put_again(slots: &mut Slots, parts: &Vec<Vec<u64>>) {
+    match slots.widen() {
+        Ok(()) | Err(_) => {}
+    }
+    put_all(slots, parts);
+}
+
 // How many hashes the parts have.
 fn count(parts: &Vec<Vec<u64>>) -> usize {
     let mut count = 0usize;
@@ -38,30 +45,22 @@ fn count(parts: &Vec<Vec<u64>>) -> usize {
 }
 
 impl Space {
-    // By which hash the state of this number is sought.
-    fn hash_at(&self, number: usize) -> u64 {
-        match self.folds.get(number) {
-            Some(fold) => self.hash_of(&fold),
-            None => self.hash_of(&self.near(number)),
-        }
-    }
-
     // The hashes of the states of a part, as many as there is memory for.
-    fn hashes(&self, part: Part) -> Vec<u64> {
+    fn hashes(&self, part: Part, own: bool) -> Vec<u64> {
         let mut hashes = Vec::new(self.alloc);
         match hashes.reserve(part.len()) {
             Ok(()) | Err(_) => {}
         }
         for number in part.from..part.to {
-            match hashes.push(self.hash_at(number)) {
+            match hashes.push(self.hash_at(number, own)) {
                 Ok(()) | Err(_) => {}
             }
         }
         hashes
     }
 
-    // The hashes of all states, by parts, for each of which there is a thread.
-    fn hashed<R: Threads + Sync>(&self, rt: &R, threads: usize) -> Result<Vec<Vec<u64>>, Memory>
+    // The hashes of all states, by parts, for each of which there is a thread, if there is memory for all.
+    fn hashed<R: Threads + Sync>(&self, rt: &R, threads: usize, own: bool) -> Option<Vec<Vec<u64>>>
         requires { 0 < threads }
     {
         let all = Part {
@@ -73,21 +72,38 @@ impl Space {
             rt,
             self.alloc,
             threads,
-            &|index: usize| { self.hashes(all.share(index, each)) },
-        )?;
-        Ok(parts)
+            &|index: usize| { self.hashes(all.share(index, each), own) },
+        );
+        match parts {
+            Ok(parts) if count(&parts) == self.len() => Some(parts),
+            Ok(_) | Err(_) => None,
+        }
     }
 
-    // Gives each state a slot again, of more if there is memory for more.
-    fn grow_by(&mut self, hashed: &Vec<Vec<u64>>)
+    // Takes room in the slots for so many states in all, if there are few slots.
+    fn widen_slots<R: Threads + Sync>(&mut self, rt: &R, threads: usize, count: usize)
+        requires { 0 < threads }
         ensures { self.new ≡ self.old }
     {
-        let mut slots = mem::replace(&mut self.slots, Slots::none(self.alloc));
-        match slots.widen() {
-            Ok(()) | Err(_) => {}
+        if !self.slots.are_few(count) {
+            return;
         }
-        put_all(&mut slots, hashed);
-        self.slots = slots;
+        if let Some(hashed) = self.hashed(rt, threads, false) {
+            put_again(&mut self.slots, &hashed);
+        }
+    }
+
+    // The same in the slots by own keys.
+    fn widen_owns<R: Threads + Sync>(&mut self, rt: &R, threads: usize, count: usize)
+        requires { 0 < threads }
+        ensures { self.new ≡ self.old }
+    {
+        if !self.owns.are_few(count) {
+            return;
+        }
+        if let Some(hashed) = self.hashed(rt, threads, true) {
+            put_again(&mut self.owns, &hashed);
+        }
     }
 
     /// Takes room for so many more states in the slots, if there are few. If there is not enough memory
@@ -96,12 +112,10 @@ impl Space {
         requires { 0 < threads }
         ensures { self.new ≡ self.old }
     {
-        if !self.slots.are_few(self.keys.len().saturating_add(more)) {
-            return;
-        }
-        match self.hashed(rt, threads) {
-            Ok(hashed) if count(&hashed) == self.len() => self.grow_by(&hashed),
-            Ok(_) | Err(_) => {}
+        let count = self.keys.len().saturating_add(more);
+        self.widen_slots(rt, threads, count);
+        if self.folds.len() > 0 {
+            self.widen_owns(rt, threads, count);
         }
     }
 }

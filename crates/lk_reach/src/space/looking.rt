@@ -40,6 +40,18 @@ impl Space {
         Some(number)
     }
 
+    // Forgets which states were met since helpers looked. Where states are folded they are sought among all.
+    fn renew_recent(&mut self)
+        ensures { self.new ≡ self.old }
+    {
+        if self.folds.len() > 0 {
+            return;
+        }
+        match self.recent.renew() {
+            Ok(()) | Err(_) => {}
+        }
+    }
+
     /// Says that helpers look next, on so many threads: what they do not find is sought among the states
     /// alone that are met from here on, and some `more` of these are awaited.
     pub(crate) fn begin_look<R: Threads + Sync>(&mut self, rt: &R, threads: usize, more: usize)
@@ -48,9 +60,7 @@ impl Space {
         if threads < 2 {
             return;
         }
-        match self.recent.renew() {
-            Ok(()) | Err(_) => {}
-        }
+        self.renew_recent();
         self.make_room_ahead(rt, threads, more);
     }
 
