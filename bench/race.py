@@ -37,10 +37,11 @@ middle, such luck is left; where other work runs beside it, the times are those 
              UnsafeCell, and beside all std's Mutex and the Mutex of Rattle's library, which has std's as its peer. With --alignments too
              one thread does so at each alignment
 --against FILE  in place of these: PROGRAM beside FILE, another build of `lk_race`, such as that of the version before. On two and four
-             threads N times eight runs of each, in turn, and each of the eight begins its stack 16 bytes further on: where a value lies
-             in a line of the cache makes a tenth of a contended turn. On one thread each program is linked at each alignment, as above.
-             Printed are the least and the middle of PROGRAM, those of FILE, and the ratio of the middles; and on more threads between
-             which two it lies in 95 of a hundred draws from the same runs. With --values, of values
+             threads N times eight runs of each, in turn. Each of the eight begins its stack 16 bytes further on, and each run its heap
+             so many times 64 bytes further on, so that 64 runs have each such place in a page: where a value lies makes a tenth of a
+             contended turn, and each build would have one place for all its runs. On one thread each program is linked at each
+             alignment, as above. Printed are the least and the middle of PROGRAM, those of FILE, and the ratio of the middles; and on
+             more threads between which two it lies in 95 of a hundred draws from the same runs. With --values, of values
 """
 import argparse
 import itertools
@@ -63,6 +64,9 @@ AGAINST_TURNS = {2: 2000000, 4: 1000000}
 DRAWS = 2000
 PADS = range(16, 144, 16)
 PLACES = range(0, 128, 16)
+LINE, LINES = 64, 64
+# From one run to the next the heap begins so many lines further on, of those of a page.
+LINES_ON = 27
 MODES = ["virt", "native", "cna", "pv"]
 SIZES = {"spin8": "8 bytes", "spin1024": "1 KiB"}
 VALUE_TURNS = {1: 400000, 2: 400000, 4: 400000}
@@ -72,14 +76,29 @@ OF_STD = {"spin": "Mutex", "rw": "RwLock"}
 WORKS = (("bare", 0), ("work", 1))
 
 
-def turn(command, threads, turns, work, place=0):
-    """The nanoseconds a turn of one race, and those of processor time. The stack begins so many bytes further on."""
+# What begins the heap HEAP bytes further on, when a program loads it.
+SHIFT = """
+#include <stdlib.h>
+
+__attribute__((constructor)) static void shift(void)
+{
+    const char *bytes = getenv("HEAP");
+    volatile char *room = bytes && atoi(bytes) ? malloc(atoi(bytes) - sizeof(size_t)) : NULL;
+
+    if (room)
+        *room = 1;
+}
+"""
+
+
+def turn(command, threads, turns, work, moved=()):
+    """The nanoseconds a turn of one race, and those of processor time. What is moved says by what its environment has."""
     mode, kind, *spins = command[1:]
     kind = kind if work else BARE[kind]
     words = [command[0], mode, kind, str(threads), str(turns // threads), *spins]
     processors = sorted(os.sched_getaffinity(0))[:threads]
     before = resource.getrusage(resource.RUSAGE_CHILDREN)
-    how = {"env": {**os.environ, "PLACE": "x" * place}, "preexec_fn": lambda: os.sched_setaffinity(0, processors)}
+    how = {"env": {**os.environ, **dict(moved)}, "preexec_fn": lambda: os.sched_setaffinity(0, processors)}
     told = subprocess.run(words, capture_output=True, text=True, check=True, **how)
     after = resource.getrusage(resource.RUSAGE_CHILDREN)
     if "right" not in told.stdout:
@@ -208,14 +227,27 @@ def ratios_of(ours, theirs):
     return drawn[DRAWS // 40], drawn[-1 - DRAWS // 40]
 
 
-def race_places(kind, modes, programs, runs, works):
-    """Races of two programs on two and on four threads, at each place of the stack, in turn; prints a line for each race."""
+def shifter(folder):
+    """The library that begins the heap further on."""
+    made = os.path.join(folder, "shift.so")
+    subprocess.run(["cc", "-O1", "-shared", "-fPIC", "-x", "c", "-", "-o", made], input=SHIFT, text=True, check=True)
+    return made
+
+
+def moves(shift, runs):
+    """For each run what begins its stack and its heap further on."""
+    for number in range(runs):
+        yield {"PLACE": "x" * PLACES[number % len(PLACES)], "HEAP": str(number * LINES_ON % LINES * LINE), "LD_PRELOAD": shift}
+
+
+def race_places(kind, modes, programs, runs, works, shift):
+    """Races of two programs on two and on four threads, at places of the stack and of the heap, in turn; prints a line for each race."""
     for mode in [mode for mode in modes if (mode, kind) != ("pv", "rw")]:
         for (threads, turns), (name, work) in itertools.product(AGAINST_TURNS.items(), works):
             times = {program: [] for program in programs}
-            for number, place in enumerate([*PLACES] * runs):
+            for number, moved in enumerate(moves(shift, runs * len(PLACES))):
                 for program in programs if number % 2 else reversed(programs):
-                    took, _used = turn([program, mode, kind], threads, turns, work, place)
+                    took, _used = turn([program, mode, kind], threads, turns, work, moved)
                     times[program].append(took)
             figures = [figure for took in times.values() for figure in (min(took), statistics.median(took))]
             title = "%s, %s, %s, %d threads" % (kind, name, mode, threads)
@@ -233,7 +265,7 @@ def race_against(args, modes, kinds, scratch):
         race_alignments(kind, modes, builds, args.runs, works)
     print(("%-32s" + "%9s" * 7) % ("race", "least ns", "middle", "against", "middle", "ratio", "from", "to"))
     for kind in kinds:
-        race_places(kind, modes, programs, args.runs, works)
+        race_places(kind, modes, programs, args.runs, works, shifter(scratch))
 
 
 def main():
