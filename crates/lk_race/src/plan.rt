@@ -31,7 +31,8 @@ pub fn two_sockets(alloc: Global, threads: u32) -> Result<Topology, Memory>
     Ok(Topology { sockets })
 }
 
-/// A plan with the lock of a race, and a processor for each thread, on two sockets. The ledger has no accounts, and no processor may write an entry.
+/// A plan with the lock of a race, and a processor for each thread, on two sockets. The ledger has no
+/// accounts, and no processor may write an entry.
 ///
 /// # Errors
 ///
