@@ -1,8 +1,9 @@
 /* library LOCK bare|work THREADS TURNS: THREADS threads take LOCK and free it TURNS times each. Under it lies nothing, or two numbers
- * that each turn raises by one. LOCK is virt, native, cna or pv of the C library, or mutex, spin or mcs: those of POSIX threads, and the
- * queued lock of Concurrency Kit (built with -DWITH_CK). Writes "right", and to standard error the microseconds from the first thread's
- * start to the last one's end, as lk_race does. A waiter of the C library yields at each 64th look, and in pv it sleeps when its 32,768
- * turns are over. bench/library.py compiles and runs this. */
+ * that each turn raises by one. LOCK is virt, native, cna or pv of the C library, or pv-sleeps, which is pv by the calls of
+ * qlock_sleep.h; or mutex, spin or mcs: those of POSIX threads, and the queued lock of Concurrency Kit (built with -DWITH_CK). Writes
+ * "right", and to standard error the microseconds from the first thread's start to the last one's end, as lk_race does. A waiter of the C
+ * library yields at each 64th look. In pv its processor halts when its 32,768 turns are over, and it goes on looking; in pv-sleeps it sleeps
+ * then. bench/library.py compiles and runs this. */
 #define _GNU_SOURCE
 #include "qlock_sleep.h"
 #include <pthread.h>
@@ -107,7 +108,7 @@ static void *by_mcs(void *given) {
 
 static const struct { const char *name; void *(*runs)(void *); int family; } locks[] = {
     {"virt", by_library, QLOCK_VIRT}, {"native", by_library, QLOCK_NATIVE}, {"cna", by_library, QLOCK_CNA},
-    {"pv", by_sleep, QLOCK_PV},
+    {"pv", by_library, QLOCK_PV}, {"pv-sleeps", by_sleep, QLOCK_PV},
     {"mutex", by_mutex, -1}, {"spin", by_spin, -1},
 #ifdef WITH_CK
     {"mcs", by_mcs, -1},

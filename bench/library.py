@@ -7,7 +7,8 @@ libck-dev is installed, and, where a built `lk_race` is named, with the same loc
 Printed are the least and the middle nanoseconds a turn, for 1, 2, 4 and 8 threads. Where valgrind is installed, so are the instructions of a
 turn of one thread: those of a run of 20,000 turns less those of a run of 10,000, in 10,000 parts.
 
-A waiter of the C library yields at each 64th look, and in Rattle by `Backoff`; in `pv` it sleeps when its 32,768 turns are over. With more
+A waiter of the C library yields at each 64th look, and in Rattle by `Backoff`. In `pv` its processor halts when its 32,768 turns are over:
+from C it then goes on looking, by the calls of qlock.h; in `pv-sleeps`, by those of qlock_sleep.h, and in Rattle it sleeps. With more
 threads than processors a queue gets few turns, since the next in line may not run. Where other work runs beside it, the times are those of
 the scheduler.
 """
@@ -30,6 +31,7 @@ from building import compiled
 
 TURNS = {1: 2000000, 2: 1000000, 4: 1000000, 8: 16000}
 OURS = ("virt", "native", "cna", "pv")
+SLEEPS = "pv-sleeps"
 KIT = Path("/usr/include/ck_spinlock.h")
 # What lies under a lock, and the word of lk_race for it.
 WORKS = {"bare": "bare", "work": "spin"}
@@ -37,7 +39,7 @@ WORKS = {"bare": "bare", "work": "spin"}
 
 def locks_of(program, race):
     """For each lock the program, its name there, and the words for what lies under it."""
-    found = {f"{name}, C": (program, name, {work: work for work in WORKS}) for name in OURS}
+    found = {f"{name}, C": (program, name, {work: work for work in WORKS}) for name in (*OURS, SLEEPS)}
     if race:
         found.update({f"{name}, Rattle": (race, name, WORKS) for name in OURS})
     others = ("mutex", "spin", *(["mcs"] if KIT.exists() else []))
