@@ -6,7 +6,7 @@ use Rattle.atomic_table.specs.Table.{Me}
 use Rattle.std.proofs.lemmas.List.{get_or-replicate, length-replicate, length-set, get_or-set_same}
 use Rattle.std.proofs.lemmas.List.{get_or-set_other}
 use Rattle.std.specs.Arc.{arc_value}
-use Rattle.lk_port.proofs.Names.{true≢false, Spins, Kind, kind_at, locks_of, calls_of, ledger_of}
+use Rattle.lk_port.proofs.Names.{true≢false, Spin, Spins, kind_at, locks_of, calls_of, ledger_of}
 use Rattle.lk_port.proofs.Names.{Cpu, Domain, own_node, first_of, domain_of, may_halt, Stands}
 use Rattle.lk_port.proofs.Names.{Done, Lock, Pending, Share}
 use Rattle.atomic_table.specs.declared.shared.Seat.{Seat}
@@ -16,17 +16,17 @@ use Rattle.lk_names.specs.declared.names.LockName.{LockName}
 use Rattle.lk_rows.specs.{declared.setup.Verb.Verb, declared.setup.Verb.TheVariants.Unlock}
 use Rattle.lk_law.proofs.common.Sames.{same_lock-true}
 use Rattle.lk_domain.specs.{Calls.{Calls, Hold, hold, holds_in, lock_name}, Keeps.Slot}
-use Rattle.lk_domain.specs.{Ledgers.Ledger, Plays.carried_of, Seats.{IsDealt, IsStill}}
+use Rattle.lk_domain.specs.{Ledgers.Ledger, Seats.{IsDealt}}
 use Rattle.lk_domain.specs.declared.view.View.{View}
 use Rattle.lk_names.proofs.Places.{set-slice_get}
 use Rattle.lk_pvdomain.proofs.ways.Frees.{freed_none, freed_others, is_let, out_kept}
 use Rattle.lk_pvdomain.proofs.ways.Kept.{IsKept, let_rests}
 use Rattle.lk_pvdomain.specs.PvCalls.{HasMissed, IsAsItWas, IsResting, without}
-use Rattle.lk_pvdomain.specs.{PvPaths.{Ended, Start, Took, starting}, PvRests.Rests}
+use Rattle.lk_pvdomain.specs.{PvPaths.{Ended, Start, Took}, PvRests.Rests}
 use Rattle.lk_pvdomain.specs.{declared.domain.PvDomain.PvDomain, declared.rest.PvRest.PvRest}
 use Rattle.lk_pvdomain.specs.declared.waiter.PvWaiter.{PvWaiter}
 use Rattle.lk_port.proofs.Ports.{and_left, and_right, apart}
-use Rattle.lk_port.proofs.Shares.{IsHalting, halting, halts_by}
+use Rattle.lk_port.proofs.Shares.{IsHalting, halting, halts_by, same_domain}
 use Rattle.lk_port.specs.Ports.{HasSettled, IsAsleep, is_turn}
 use Rattle.lk_port.specs.declared.answer.Answer.{Answer}
 use Rattle.lk_port.specs.declared.answer.Answer.TheVariants as answer
@@ -123,6 +123,10 @@ rests s d bs o cpu is e h = subst (λ (x : Pending). StandsHalting d bs x cpu) e
 pub stands : (s : Share) (d : PvDomain) (bs : List Bool) (o : Pending) (cpu : Cpu) → IsHalting s d → o ≡ Free
     → IsResting (calls_of cpu) × IsHome d bs (calls_of cpu).holds (ledger_of cpu) → Stands s bs o cpu
 stands s d bs o cpu is e h = halts_by _ _ s d is (subst (λ (x : Pending). StandsHalting d bs x cpu) (sym e) h)
+
+-- each lock of one whose waiters halt is a spinlock
+pub spins : (s : Share) (d : PvDomain) (l : ℕ) → IsHalting s d → kind_at (domain_of s).plan l ≡ Spin
+spins s d l is = subst (λ (e : Domain). kind_at e.plan l ≡ Spin) (sym (same_domain s d is)) (d.domain.lawful.spins d.halting l)
 
 -- one in which a call waits
 pub waits : (s : Share) (d : PvDomain) (bs : List Bool) (o : Pending) (w : PvWaiter) (cpu : Cpu) → IsHalting s d → o ≡ Halts w → Stands s bs o cpu

@@ -250,26 +250,34 @@ came d v l y s b told ws was has low kind =
 pub same_kind : (d : Domain) {k : Kind} (a b : LockId) → b ≡ a → kind_at d.plan a.index ≡ k → kind_at d.plan b.index ≡ k
 same_kind d {k} a b e kind = subst (λ (x : LockId). kind_at d.plan x.index ≡ k) (sym e) kind
 
--- no spinlock is that of the last call, or one is
+-- A lock that was just taken is held.
+pub held_first : {c l n : ℕ} {m : Manner} {hs new : List Hold} → new ≡ hold c (lock_name l) m n ∷ hs → holds_in new l ≡ true
+held_first {c} {l} {n} {m} {hs} {new} is =
+    ap (λ (gs : List Hold). holds_in gs l) is
+    ∙ ap (λ (b : Bool). if b then true else holds_in hs l) (same_lock-self (lock_name l))
 
-pub other : {s : Share} {o : Pending} → IsLast s o NONE
-other {s} {o} ne = absurd (ne refl)
+-- what the last call tells: of no spinlock; or of one that was ready for a call, and is held now or not
 
-pub next : {s : Share} {o : Pending} {cpu : Cpu} {l : ℕ} {held : Bool} → may_halt s ≡ false → IsReady (domain_of s) o cpu Spin l held → IsLast s o l
-next {s} {o} {cpu} {l} {held} runs may ne = record { runs = runs; free = may.free; lock = may.lock; kind = may.kind }
+pub other : {d : Domain} {o : Pending} {cpu : Cpu} {held : Bool} → IsLast d o cpu NONE held
+other {d} {o} {cpu} {held} ne = absurd (ne refl)
 
--- where a call waited none was
+pub named : {d : Domain} {o : Pending} {cpu : Cpu} {last l : ℕ} {held : Bool} → last ≡ l → IsReady d o cpu Spin l held
+    → IsLast d o cpu last held
+named {d} {o} {cpu} {last} {l} {held} is may ne = subst (λ (n : ℕ). IsReady d o cpu Spin n held) (sym is) may
+
+pub ready : {d : Domain} {o p : Pending} {a b : Cpu} {l : ℕ} {was is : Bool} → IsReady d o a Spin l was → p ≡ Free
+    → holds_in (calls_of b).holds l ≡ is → IsReady d p b Spin l is
+ready {d} {o} {p} {a} {b} {l} {was} {is} may free holds = record { free = free; lock = may.lock; kind = may.kind; holds = holds }
+
+-- where a call waited, of none
 
 abbrev pub is_free : Pending → Bool
 is_free Free = true
 is_free _ = false
 
-pub waited : {s : Share} {o p : Pending} {l : ℕ} → is_free o ≡ false → IsLast s o l → IsLast s p l
-waited {s} {o} {p} {l} waits last ne = absurd (true≢false (sym (ap is_free (last ne).free) ∙ waits))
-
--- where waiters halt none is
-pub none : {s : Share} {o p : Pending} {l : ℕ} → may_halt s ≡ true → IsLast s o l → IsLast s p l
-none {s} {o} {p} {l} halts last ne = absurd (true≢false (sym halts ∙ (last ne).runs))
+pub waited : {d : Domain} {o p : Pending} {a b : Cpu} {l : ℕ} {held : Bool} → is_free o ≡ false → IsLast d o a l held
+    → IsLast d p b l held
+waited {d} {o} {p} {a} {b} {l} {held} waits last ne = absurd (true≢false (sym (ap is_free (last ne).free) ∙ waits))
 
 pub same_bool : (a b : Bool) → beq a b ≡ true → a ≡ b
 same_bool true true e = refl

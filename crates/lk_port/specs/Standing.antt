@@ -19,7 +19,7 @@ use Rattle.lk_run.specs.Phases.{Start}
 use Rattle.lk_run.specs.Polled as locker
 use Rattle.lk_run.specs.PolledRead as reader
 use Rattle.lk_run.specs.PolledWrite as writer
-use Rattle.lk_port.specs.Shares.{By, domain_of, may_halt}
+use Rattle.lk_port.specs.Shares.{By}
 use Rattle.lk_port.specs.declared.last.TheConstants.{NONE}
 use Rattle.lk_port.specs.declared.pending.Pending.{Pending}
 use Rattle.lk_port.specs.declared.pending.Pending.TheVariants.{Free, Spins, Reads, Writes, Halts}
@@ -87,12 +87,6 @@ pub record IsReady (d : Domain) (o : Pending) (cpu : Cpu) (k : Kind) (l : ℕ) (
   pub kind : kind_at d.plan l ≡ k
   pub holds : holds_in (calls_of cpu).holds l ≡ held
 
--- Where it names a spinlock, the waiters run and no call waits.
-pub record IsNext (share : Share) (o : Pending) (l : ℕ) : Type 0 where
-  pub runs : may_halt share ≡ false
-  pub free : o ≡ Free
-  pub lock : l < locks_of (domain_of share).plan
-  pub kind : kind_at (domain_of share).plan l ≡ Spin
-
-abbrev pub IsLast : Share → Pending → ℕ → Type 0
-IsLast share o last = last ≢ NONE → IsNext share o last
+-- Where a spinlock is named, no call waits, and the processor holds it or not.
+abbrev pub IsLast : Domain → Pending → Cpu → ℕ → Bool → Type 0
+IsLast d o cpu last held = last ≢ NONE → IsReady d o cpu Spin last held

@@ -37,14 +37,3 @@ pub struct Freed {
     /// The number of the processor that was kicked, if one was.
     pub kicked: Option<u32>,
 }
-
-/// Whether a call on a spinlock may begin, and by the calls of which families.
-#[derive(Clone, Copy)]
-pub(crate) enum Asked {
-    /// It may not.
-    Refused(Answer),
-    /// Those whose waiters run.
-    Runs,
-    /// The one whose waiters halt.
-    Halts,
-}

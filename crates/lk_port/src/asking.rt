@@ -6,80 +6,25 @@ ghost use Rattle.lk_domain.specs.Plans.{kind_at, locks_of};
 ghost use Rattle.lk_port.specs.Asking.{MayCall, Refuses, domain_in, has, way};
 ghost use Rattle.lk_port.specs.Shares.{may_halt};
 ghost use Rattle.lk_port.specs.declared.answer.Answer.{Answer};
-ghost use Rattle.lk_port.specs.declared.answer.Asked.TheVariants.{Refused, Runs, Halts};
 
-use crate::answer::{Answer, Asked};
-use crate::last::{NEAR, NONE};
+use crate::answer::Answer;
+use crate::last::NEAR;
 use crate::pending::Pending;
 use crate::port::Port;
 use lk_domain::LockId;
 use lk_names::Kind;
 
 impl Port {
-    // Whether a call may begin on a spinlock that the processor holds, or does not, because it is the one
-    // of the last call. A no says nothing.
-    #[inline(always)]
-    fn last_allows(&self, lock: LockId, held: bool) -> bool
-        ensures may { result ≡ true → MayCall self.now Spin lock.index held }
-        ensures runs { result ≡ true → may_halt self.now.share ≡ false }
-    {
-        if lock.index == NONE {
-            return false;
-        }
-        if lock.index != self.last {
-            return false;
-        }
-        self.cpu.holds(lock) == held
-    }
-
-    // The same, for a lock whose mark lies in the processor. These tests are all that a thread meets that
-    // takes one lock and frees it, time after time: an atomic operation waits until the tests before it are
-    // done, and what they load waits for the atomic operation before.
+    // Whether a call may begin on a spinlock that the processor holds, or does not, because the last call
+    // tells it. A no says nothing. These tests are all that a thread meets that takes one lock and frees
+    // it, time after time: an atomic operation waits until the tests before it are done, and what they load
+    // waits for the atomic operation before.
     #[inline(always)]
     pub(crate) fn allows(&self, lock: LockId, held: bool) -> bool
         ensures may { result ≡ true → MayCall self.now Spin lock.index held }
-        ensures runs { result ≡ true → may_halt self.now.share ≡ false }
+        ensures last { result ≡ true → self.now.last ≡ lock.index }
     {
-        lock.index < NEAR && self.last_allows(lock, held)
-    }
-
-    // Whether waiters halt and a call may begin on a spinlock that the processor holds, or does not.
-    #[inline(always)]
-    pub(crate) fn allows_halting(&self, lock: LockId, held: bool) -> bool
-        ensures may { result ≡ true → MayCall self.now Spin lock.index held }
-        ensures halts { result ≡ true → may_halt self.now.share ≡ true }
-    {
-        if !self.share.halts() {
-            return false;
-        }
-        match self.refuses(lock, Kind::Spin, held) {
-            Some(_) => false,
-            None => true,
-        }
-    }
-
-    // Whether a call may begin on a spinlock that the processor holds, or does not, and by whose calls.
-    #[inline]
-    pub(crate) fn asks(&self, lock: LockId, held: bool) -> Asked
-        ensures runs { result ≡ Runs → MayCall self.now Spin lock.index held
-            × (may_halt self.now.share ≡ false) }
-        ensures halts { result ≡ Halts → MayCall self.now Spin lock.index held
-            × (may_halt self.now.share ≡ true) }
-        ensures why { (a : Answer) → result ≡ Refused a → Refuses self.now Spin lock.index a }
-    {
-        if self.share.halts() {
-            return match self.refuses(lock, Kind::Spin, held) {
-                Some(answer) => Asked::Refused(answer),
-                None => Asked::Halts,
-            };
-        }
-        if self.last_allows(lock, held) {
-            return Asked::Runs;
-        }
-        match self.refuses(lock, Kind::Spin, held) {
-            Some(answer) => Asked::Refused(answer),
-            None => Asked::Runs,
-        }
+        lock.index < NEAR && lock.index == self.last && self.holds_last == held
     }
 
     // Why no call may begin on a lock of this kind that the processor holds, or does not, if there is

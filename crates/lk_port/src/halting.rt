@@ -17,6 +17,7 @@ ghost use Rattle.lk_port.specs.declared.answer.Answer.TheVariants as answer;
 ghost use Rattle.lk_port.specs.declared.pending.Pending.TheVariants.{Halts};
 
 use crate::answer::{Answer, Freed};
+use crate::last::NONE;
 use crate::pending::Pending;
 use crate::port::Port;
 use crate::share::Share;
@@ -50,27 +51,14 @@ impl Port {
         ensures missed { result ≡ false → Misses lock.index self.old self.new }
     {
         self.stands();
+        self.last = NONE;
         let has = pv_try_lock(&mut self.cpu, self.share.halting(), lock);
         if has {
             *self.notes.get_mut(lock.index as usize) = true;
+            self.last = lock.index;
+            self.holds_last = true;
         }
         has
-    }
-
-    /// Does as `begin` does where waiters halt and the call may begin. `None` says that it is not so:
-    /// nothing has changed, and `begin` is to be called.
-    #[inline(always)]
-    pub fn begin_halting(&mut self, lock: LockId) -> Option<Answer>
-        ensures domain { self.new.share ≡ self.old.share }
-        ensures taken { result ≡ Some Done → Locks lock.index self.old self.new }
-        ensures halts { result ≡ Some answer.Halts → has_halted self.new ≡ true }
-        ensures waits { result ≡ Some Waits → has_halted self.new ≡ false }
-        ensures same { result ≡ None → self.new ≡ self.old }
-    {
-        if !self.allows_halting(lock, false) {
-            return None;
-        }
-        Some(self.begins_halting(lock))
     }
 
     // The mark is found before the row F1: a load behind it would delay the store, and with it the next
@@ -78,6 +66,7 @@ impl Port {
     #[inline(always)]
     pub(crate) fn begins_halting(&mut self, lock: LockId) -> Answer
         requires may { MayCall self.old Spin lock.index false }
+        requires last { self.old.last ≡ lock.index }
         requires halts { may_halt self.old.share ≡ true }
         ensures domain { self.new.share ≡ self.old.share }
         ensures turn { is_turn result ≡ true }
@@ -89,8 +78,10 @@ impl Port {
         let note = self.notes.get_mut(lock.index as usize);
         if halting::take(&mut self.cpu.seat, self.share.domain(), lock.index) {
             *note = true;
+            self.holds_last = true;
             return Answer::Done;
         }
+        self.last = NONE;
         settles_halting(&self.share, lock, &mut self.cpu, note, &mut self.pending)
     }
 
@@ -108,6 +99,8 @@ impl Port {
             PvTurn::Has => {
                 self.pending = Pending::Free;
                 *self.notes.get_mut(waiter.lock.index as usize) = true;
+                self.last = waiter.lock.index;
+                self.holds_last = true;
                 Answer::Done
             }
             PvTurn::Waits(waiter) => {
@@ -121,26 +114,11 @@ impl Port {
         }
     }
 
-    /// Does as `unlock` does where waiters halt and the call may begin. `None` says that it is not so:
-    /// nothing has changed, and `unlock` is to be called.
-    #[inline(always)]
-    pub fn unlock_halting(&mut self, lock: LockId) -> Option<Freed>
-        ensures domain { self.new.share ≡ self.old.share }
-        ensures freed { IfSome result (λ freed. freed.answer ≡ Done
-            → Frees lock.index self.old self.new) }
-        ensures again { IfSome result (λ freed. freed.answer ≡ Again → Stays self.old self.new) }
-        ensures same { result ≡ None → self.new ≡ self.old }
-    {
-        if !self.allows_halting(lock, true) {
-            return None;
-        }
-        Some(freed_by(self.frees_halting(lock)))
-    }
-
     // The mark is found before the row U2, as in `begins_halting`.
     #[inline(always)]
     pub(crate) fn frees_halting(&mut self, lock: LockId) -> PvRelease
         requires may { MayCall self.old Spin lock.index true }
+        requires last { self.old.last ≡ lock.index }
         requires halts { may_halt self.old.share ≡ true }
         ensures domain { self.new.share ≡ self.old.share }
         ensures freed { has_freed result ≡ true → Frees lock.index self.old self.new }
@@ -152,8 +130,10 @@ impl Port {
         let met = halting::free(seat, self.share.domain(), lock.index);
         if met == HELD {
             *note = false;
+            self.holds_last = false;
             return PvRelease::Freed;
         }
+        self.last = NONE;
         frees_on(&self.share, lock, seat, met, note)
     }
 }

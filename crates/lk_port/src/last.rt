@@ -1,4 +1,4 @@
-// The spinlock of the last call of a port, by which the next call goes.
+// What the last call of a port tells of its spinlock, by which the next call goes.
 
 /// No spinlock: no domain has one of this number.
 pub(crate) const NONE: u32 = u32::MAX;

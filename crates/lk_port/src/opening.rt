@@ -94,6 +94,7 @@ fn port(alloc: Global, share: &Share, cpu: Cpu) -> Result<Port, Fault>
         share,
         pending: Pending::Free,
         last: NONE,
+        holds_last: false,
         cpu,
         notes,
     })

@@ -41,6 +41,7 @@ impl Port {
             None => {
                 self.pending = Pending::Free;
                 self.last = waiter.lock.index;
+                self.holds_last = true;
                 true
             }
             Some(waiter) => {

@@ -16,14 +16,15 @@ pub struct Port {
     // These two stand before the processor, at whose end a line of the cache is unused: ports may lie side
     // by side, and each call stores here, or each poll.
     pub(crate) pending: Pending,
-    // the spinlock of the last call, where the next one may be for it and the family's waiters run
+    // The spinlock of the last call, where the next one may be for it, and whether the processor holds it.
     pub(crate) last: u32,
+    pub(crate) holds_last: bool,
     pub(crate) cpu: Cpu,
     // of each lock that it holds, whether it holds it as a writer; and of each lock whether it holds it,
     // where its family halts, since then its processor notes nothing
     pub(crate) notes: List<bool>,
     ghost of: { IsOf cpu share },
-    ghost lasts: { IsLast share pending last },
+    ghost lasts: { IsLast (domain_of share) pending cpu last holds_last },
     ghost stands: { ∥ Stands share notes.items pending cpu ∥₁ },
 }
 

@@ -45,6 +45,7 @@ impl Port {
         ensures missed { result ≡ false → MissesEntry TryRead lock.index self.old self.new }
     {
         self.runs();
+        self.last = NONE;
         let has = lk_run::try_read(&mut self.cpu, self.share.domain(), lock);
         if has {
             *self.notes.get_mut(lock.index as usize) = false;
@@ -120,6 +121,7 @@ impl Port {
         ensures left { Leaves Z1 lock.index self.old self.new }
     {
         self.runs();
+        self.last = NONE;
         lk_run::read_unlock(&mut self.cpu, self.share.domain(), lock);
     }
 }

@@ -14,13 +14,14 @@ ghost use Rattle.lk_port.specs.Ports.{has_halted, is_turn};
 ghost use Rattle.lk_port.specs.Shares.{domain_of, may_halt};
 ghost use Rattle.lk_port.specs.declared.answer.Answer.TheVariants.{Again, Busy, Done, Halts, Waits};
 
-use crate::answer::{Answer, Asked, Freed};
+use crate::answer::{Answer, Freed};
 use crate::halting::freed_by;
 use crate::last::NONE;
 use crate::pending::Pending;
 use crate::port::Port;
 use crate::share::Share;
 use lk_domain::{Cpu, LockId};
+use lk_names::Kind;
 use lk_run::Arrival;
 
 impl Port {
@@ -32,17 +33,10 @@ impl Port {
         ensures same { result ≢ Done → result ≢ Busy → self.new ≡ self.old }
         ensures why { result ≢ Done → result ≢ Busy → Refuses self.old Spin lock.index result }
     {
-        match self.asks(lock, false) {
-            Asked::Refused(answer) => answer,
-            Asked::Runs => {
+        match self.refuses(lock, Kind::Spin, false) {
+            Some(answer) => answer,
+            None => {
                 if self.tries(lock) {
-                    Answer::Done
-                } else {
-                    Answer::Busy
-                }
-            }
-            Asked::Halts => {
-                if self.tries_halting(lock) {
                     Answer::Done
                 } else {
                     Answer::Busy
@@ -54,15 +48,30 @@ impl Port {
     // True: it has it.
     fn tries(&mut self, lock: LockId) -> bool
         requires may { MayCall self.old Spin lock.index false }
+        ensures domain { self.new.share ≡ self.old.share }
+        ensures taken { result ≡ true → Tries lock.index self.old self.new }
+        ensures missed { result ≡ false → Misses lock.index self.old self.new }
+    {
+        if self.share.halts() {
+            self.tries_halting(lock)
+        } else {
+            self.tries_running(lock)
+        }
+    }
+
+    fn tries_running(&mut self, lock: LockId) -> bool
+        requires may { MayCall self.old Spin lock.index false }
         requires runs { may_halt self.old.share ≡ false }
         ensures domain { self.new.share ≡ self.old.share }
         ensures taken { result ≡ true → HasTried Try Spins lock.index self.old self.new }
         ensures missed { result ≡ false → HasMissed Try lock.index self.old self.new }
     {
         self.runs();
+        self.last = NONE;
         let has = lk_run::try_lock(&mut self.cpu, self.share.domain(), lock);
         if has {
             self.last = lock.index;
+            self.holds_last = true;
         }
         has
     }
@@ -79,49 +88,85 @@ impl Port {
         ensures same { is_turn result ≡ false → self.new ≡ self.old }
         ensures why { is_turn result ≡ false → Refuses self.old Spin lock.index result }
     {
-        match self.asks(lock, false) {
-            Asked::Refused(answer) => answer,
-            Asked::Runs => {
+        match self.refuses(lock, Kind::Spin, false) {
+            Some(answer) => answer,
+            None => {
                 self.last = lock.index;
-                if self.begins(lock) {
-                    Answer::Done
-                } else {
-                    Answer::Waits
-                }
+                self.holds_last = false;
+                self.begins(lock)
             }
-            Asked::Halts => self.begins_halting(lock),
         }
     }
 
-    /// Does as `begin` does where the last call tells that it may. `None` says that it does not tell that:
-    /// nothing has changed, and `begin` is to be called.
+    /// Does as `begin` does where the family's waiters run and the last call tells that the call may begin.
+    /// `None` says that it is not so: nothing has changed, and `begin` is to be called, or `begin_halting`
+    /// before it.
     #[inline(always)]
-    pub fn begin_last(&mut self, lock: LockId) -> Option<Answer>
+    pub fn begin_running(&mut self, lock: LockId) -> Option<Answer>
         ensures domain { self.new.share ≡ self.old.share }
         ensures taken { result ≡ Some Done → Locks lock.index self.old self.new }
         ensures waits { IfSome result (λ _. has_halted self.new ≡ false) }
         ensures same { result ≡ None → self.new ≡ self.old }
     {
-        if !self.allows(lock, false) {
+        if self.share.halts() || !self.allows(lock, false) {
             return None;
         }
-        if self.begins(lock) {
+        if self.begins_running(lock) {
             return Some(Answer::Done);
         }
         Some(Answer::Waits)
     }
 
+    /// The same where waiters halt.
+    #[inline(always)]
+    pub fn begin_halting(&mut self, lock: LockId) -> Option<Answer>
+        ensures domain { self.new.share ≡ self.old.share }
+        ensures taken { result ≡ Some Done → Locks lock.index self.old self.new }
+        ensures halts { result ≡ Some Halts → has_halted self.new ≡ true }
+        ensures waits { result ≡ Some Waits → has_halted self.new ≡ false }
+        ensures same { result ≡ None → self.new ≡ self.old }
+    {
+        if !self.share.halts() || !self.allows(lock, false) {
+            return None;
+        }
+        Some(self.begins_halting(lock))
+    }
+
+    #[inline(always)]
+    fn begins(&mut self, lock: LockId) -> Answer
+        requires may { MayCall self.old Spin lock.index false }
+        requires last { self.old.last ≡ lock.index }
+        ensures domain { self.new.share ≡ self.old.share }
+        ensures turn { is_turn result ≡ true }
+        ensures taken { result ≡ Done → Locks lock.index self.old self.new }
+        ensures halts { result ≡ Halts → has_halted self.new ≡ true }
+        ensures waits { result ≡ Waits → has_halted self.new ≡ false }
+    {
+        if self.share.halts() {
+            return self.begins_halting(lock);
+        }
+        if self.begins_running(lock) {
+            Answer::Done
+        } else {
+            Answer::Waits
+        }
+    }
+
     // True: it has it. False: the call waits.
     #[inline(always)]
-    fn begins(&mut self, lock: LockId) -> bool
+    fn begins_running(&mut self, lock: LockId) -> bool
         requires may { MayCall self.old Spin lock.index false }
+        requires last { self.old.last ≡ lock.index }
         requires runs { may_halt self.old.share ≡ false }
         ensures domain { self.new.share ≡ self.old.share }
         ensures taken { result ≡ true → HasLocked lock.index self.old self.new }
     {
         self.runs();
         match lk_run::arrive(&mut self.cpu, self.share.domain(), lock) {
-            None => true,
+            None => {
+                self.holds_last = true;
+                true
+            }
             Some(arrival) => {
                 self.last = NONE;
                 settles(&mut self.cpu, &self.share, lock, arrival, &mut self.pending)
@@ -142,45 +187,64 @@ impl Port {
         ensures why { result.answer ≢ Done → result.answer ≢ Again
             → Refuses self.old Spin lock.index result.answer }
     {
-        let answer = match self.asks(lock, true) {
-            Asked::Refused(answer) => answer,
-            Asked::Runs => {
+        match self.refuses(lock, Kind::Spin, true) {
+            Some(answer) => Freed {
+                answer,
+                kicked: None,
+            },
+            None => {
                 self.last = lock.index;
-                self.frees(lock);
-                Answer::Done
+                self.holds_last = true;
+                self.frees(lock)
             }
-            Asked::Halts => return freed_by(self.frees_halting(lock)),
-        };
+        }
+    }
+
+    /// Does as `unlock` does where the last call tells that it may. `None` says that it does not tell that:
+    /// nothing has changed, and `unlock` is to be called.
+    #[inline(always)]
+    pub fn unlock_last(&mut self, lock: LockId) -> Option<Freed>
+        ensures domain { self.new.share ≡ self.old.share }
+        ensures freed { IfSome result (λ freed. freed.answer ≡ Done
+            → Frees lock.index self.old self.new) }
+        ensures again { IfSome result (λ freed. freed.answer ≡ Again → Stays self.old self.new) }
+        ensures same { result ≡ None → self.new ≡ self.old }
+    {
+        if !self.allows(lock, true) {
+            return None;
+        }
+        Some(self.frees(lock))
+    }
+
+    #[inline(always)]
+    fn frees(&mut self, lock: LockId) -> Freed
+        requires may { MayCall self.old Spin lock.index true }
+        requires last { self.old.last ≡ lock.index }
+        ensures domain { self.new.share ≡ self.old.share }
+        ensures freed { result.answer ≡ Done → Frees lock.index self.old self.new }
+        ensures again { result.answer ≢ Done → (result.answer ≡ Again) × Stays self.old self.new }
+    {
+        if self.share.halts() {
+            return freed_by(self.frees_halting(lock));
+        }
+        self.frees_running(lock);
         Freed {
-            answer,
+            answer: Answer::Done,
             kicked: None,
         }
     }
 
-    /// Does as `unlock` does where two tests tell that it may. False says that they did not: then nothing
-    /// has changed, and `unlock` is to be called.
     #[inline(always)]
-    pub fn unlock_last(&mut self, lock: LockId) -> bool
-        ensures domain { self.new.share ≡ self.old.share }
-        ensures freed { result ≡ true → Frees lock.index self.old self.new }
-        ensures same { result ≡ false → self.new ≡ self.old }
-    {
-        if !self.allows(lock, true) {
-            return false;
-        }
-        self.frees(lock);
-        true
-    }
-
-    #[inline(always)]
-    fn frees(&mut self, lock: LockId)
+    fn frees_running(&mut self, lock: LockId)
         requires may { MayCall self.old Spin lock.index true }
+        requires last { self.old.last ≡ lock.index }
         requires runs { may_halt self.old.share ≡ false }
         ensures domain { self.new.share ≡ self.old.share }
         ensures freed { HasUnlocked lock.index self.old self.new }
     {
         self.runs();
         lk_run::unlock(&mut self.cpu, self.share.domain(), lock);
+        self.holds_last = false;
     }
 }
 

@@ -45,6 +45,7 @@ impl Port {
         ensures missed { result ≡ false → MissesEntry TryWrite lock.index self.old self.new }
     {
         self.runs();
+        self.last = NONE;
         let has = lk_run::try_write(&mut self.cpu, self.share.domain(), lock);
         if has {
             *self.notes.get_mut(lock.index as usize) = true;
@@ -120,6 +121,7 @@ impl Port {
         ensures left { Leaves Z2 lock.index self.old self.new }
     {
         self.runs();
+        self.last = NONE;
         lk_run::write_unlock(&mut self.cpu, self.share.domain(), lock);
     }
 }

@@ -3,7 +3,7 @@ ghost use Rattle.std.specs.Prelude.{◌≡◌, ◌≢◌, true};
 ghost use Rattle.lk_port.specs.Ports.{Ends, Frees, Locks, Tries};
 ghost use Rattle.qlock_c.specs.Crossing.{Crosses};
 
-use crate::codes::{CLOSED, NOBODY, code, freed_code};
+use crate::codes::{CLOSED, code, freed_code};
 use crate::processor::Processor;
 use lk_domain::LockId;
 use lk_port::Port;
@@ -36,7 +36,7 @@ pub extern "C" fn qlock_begin(cpu: &mut Processor, lock: u32) -> u32
 fn begins(port: &mut Port, lock: u32) -> u32
     ensures { result ≡ 0 → Locks lock port.old port.new }
 {
-    match port.begin_last(LockId { index: lock }) {
+    match port.begin_running(LockId { index: lock }) {
         Some(answer) => code(answer),
         None => begins_halting(port, lock),
     }
@@ -74,10 +74,7 @@ pub extern "C" fn qlock_unlock(cpu: &mut Processor, lock: u32) -> u32
 fn frees(port: &mut Port, lock: u32) -> u32
     ensures { result ≡ 0 → Frees lock port.old port.new }
 {
-    if port.unlock_last(LockId { index: lock }) {
-        return 0;
-    }
-    match port.unlock_halting(LockId { index: lock }) {
+    match port.unlock_last(LockId { index: lock }) {
         Some(freed) => code(freed.answer),
         None => frees_anew(port, lock),
     }
@@ -107,11 +104,7 @@ fn tells(port: &mut Port, lock: u32, kicked: &mut u32) -> u32
     ensures freed { result ≡ 0 → Frees lock port.old port.new }
     ensures same { result ≢ 0 → kicked.new ≡ kicked.old }
 {
-    if port.unlock_last(LockId { index: lock }) {
-        *kicked = NOBODY;
-        return 0;
-    }
-    match port.unlock_halting(LockId { index: lock }) {
+    match port.unlock_last(LockId { index: lock }) {
         Some(freed) => freed_code(freed, kicked),
         None => tells_anew(port, lock, kicked),
     }

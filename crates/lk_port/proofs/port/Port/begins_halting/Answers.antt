@@ -1,4 +1,4 @@
-use Rattle.std.proofs.Common.{ℕ, set, true, false, refl, sym, subst, arith, ◌≡◌, ◌∙◌}
+use Rattle.std.proofs.Common.{ℕ, set, true, refl, sym, subst, ◌≡◌, ◌∙◌}
 use Rattle.lk_rows.specs.declared.parts.Pc.TheVariants.{G1}
 use Rattle.lk_domain.specs.Paths.{Any}
 use Rattle.lk_pvdomain.proofs.ways.Frees.{is_let}
@@ -6,7 +6,7 @@ use Rattle.lk_pvdomain.proofs.ways.Kept.{kept_cpu, let_rests, let_same, rests_of
 use Rattle.lk_pvdomain.proofs.ways.Rested.{at_row, kept_since, same_since, since_first, since_take}
 use Rattle.lk_pvdomain.specs.PvPaths.{At, Rests, Took, first_node}
 use Rattle.lk_port.proofs.Names.{Domain, Lock, own_node, first_of}
-use Rattle.lk_port.proofs.{Ports.none, Shares.{halting, halting_in, halts_by, is_of, low_in, same_domain, still_in}}
+use Rattle.lk_port.proofs.{Ports.{held_first, named, other, ready}, Shares.{halting, halting_in, halts_by, is_of, low_in, same_domain, still_in}}
 use Rattle.lk_port.proofs.HaltingPorts as port
 use Rattle.lk_port.proofs.port.Port.begins_halting.Goals as goal
 
@@ -56,7 +56,7 @@ invariant_of-self-then-take c =
     let t = is_let me.cpu.seat new took in
     record {
       of = still_in me.share me.cpu _ (let_same me.cpu _ t refl) me.of;
-      lasts = me.lasts;
+      lasts = named c.requires.last (ready may may.free (held_first took.holds));
       stands = ∣ port.stands me.share d (set me.notes.items l true) me.pending _ x.1 may.free
           (let_rests t, port.took d Lock l own s new me.notes.items r.1 (low_in me.share d x.1 may.lock) took) ∣₁;
     }
@@ -113,7 +113,7 @@ invariant_of-self-2 c =
     record {
       of = still_in me.share me.cpu new
           (record { table = k.same.table ∙ at.table_was; id = k.same.id ∙ at.id_was; number = k.same.number; who = k.same.who ∙ at.who }) me.of;
-      lasts = none c.requires.halts me.lasts;
+      lasts = other;
       stands = ∣ port.settled me.share d x.1 me.notes.items l c.get_mut-note.result.now c.settles_halting.new.note me.pending c.settles_halting.new.pending s new
           c.settles_halting.result k.turn may.free (low_in me.share d x.1 may.lock) r.1 c.get_mut-note.ensures.value
           (λ y. k.taken y s at) k.noted (λ y. k.pending y s at) k.still ∣₁;

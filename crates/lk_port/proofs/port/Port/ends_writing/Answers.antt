@@ -26,6 +26,6 @@ invariant_of-self c =
     let new = c.write_unlock.new.cpu in
     record {
       of = still_in me.share me.cpu new c.write_unlock.ensures.rest.same me.of;
-      lasts = me.lasts;
+      lasts = port.other;
       stands = ∣ port.stands me.share me.notes.items me.pending new c.runs.ensures.runs may.free (port.left d l me.cpu new Z2 me.notes.items idle c.write_unlock.ensures.left) ∣₁;
     }

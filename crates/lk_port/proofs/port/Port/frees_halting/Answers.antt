@@ -11,7 +11,7 @@ use Rattle.lk_pvdomain.specs.PvCalls.{HasTried, IsAsItWas, MayFree}
 use Rattle.lk_pvdomain.specs.PvPaths.{Ended, Rests}
 use Rattle.lk_pvdomain.specs.PvReleases.{has_freed}
 use Rattle.lk_port.proofs.Names.{Domain, own_node, first_of, calls_of}
-use Rattle.lk_port.proofs.{Ports.none_out, Shares.{halting_in, halts_by, is_of, low_in, same_domain, still_in}}
+use Rattle.lk_port.proofs.{Ports.{named, none_out, other, ready}, Shares.{halting_in, halts_by, is_of, low_in, same_domain, still_in}}
 use Rattle.lk_port.proofs.HaltingPorts as port
 use Rattle.lk_port.proofs.port.Port.frees_halting.Goals as goal
 
@@ -75,7 +75,7 @@ invariant_of-self-then-met-eq-HELD c =
     let t = is_let me.cpu.seat new ended in
     record {
       of = still_in me.share me.cpu _ (let_same me.cpu _ t refl) me.of;
-      lasts = me.lasts;
+      lasts = named c.requires.last (ready may may.free (freed_none d.domain l own me.cpu.seat new ended));
       stands = ∣ port.stands me.share d (set me.notes.items l false) me.pending _ x.1 may.free
           (port.released d l me.cpu new me.notes.items r.1 (low_in me.share d x.1 may.lock) ended) ∣₁;
     }
@@ -165,7 +165,7 @@ invariant_of-self-3 c =
     let k = port.let_or_still d l me.cpu new (has_freed c.frees_on.result) freed still in
     record {
       of = still_in me.share me.cpu _ (record { table = k.0; id = k.1; number = refl; who = k.2.who }) me.of;
-      lasts = me.lasts;
+      lasts = other;
       stands = ∣ port.stands me.share d (set me.notes.items l c.frees_on.new.note) me.pending _ x.1 may.free
           (port.let_stands d l me.cpu new (has_freed c.frees_on.result) freed still me.notes.items c.get_mut-note.result.now c.frees_on.new.note r
           (low_in me.share d x.1 may.lock) c.get_mut-note.ensures.value f.unmarked f.marked) ∣₁;

@@ -24,6 +24,11 @@ invariant_of-self c =
     subst (λ (e : Domain). Holds e Lock w.lock.index manner.Spins was.0 c.poll.new.cpu None) same (c.poll.ensures.holds c.in-None.is was.0 waits) in
     record {
       of = still_in me.share me.cpu c.poll.new.cpu c.poll.ensures.rest.same me.of;
-      lasts = λ _. record { runs = c.runs.ensures.runs; free = refl; lock = was.3.low; kind = was.2 };
+      lasts = λ _. record {
+        free = refl;
+        lock = was.3.low;
+        kind = was.2;
+        holds = port.held_first has.taken.holds;
+      };
       stands = ∣ runs_by _ _ me.share c.runs.ensures.runs (port.held d Lock w.lock.index was.0 c.poll.new.cpu None me.notes.items was.1 has was.2) ∣₁;
     }

@@ -1,6 +1,7 @@
-use Rattle.std.proofs.Common.{set, true, arith}
+use Rattle.std.proofs.Common.{set, true, refl, arith}
 use Rattle.lk_port.proofs.Names.{own_node, first_of}
 use Rattle.lk_rows.specs.declared.setup.Verb.TheVariants.{Try}
+use Rattle.lk_port.proofs.Ports.{held_first, named, ready}
 use Rattle.lk_port.proofs.Shares.{is_of, low_in, still_in}
 use Rattle.lk_port.proofs.HaltingPorts as port
 use Rattle.lk_port.proofs.port.Port.tries_halting.Goals as goal
@@ -40,7 +41,7 @@ invariant_of-self c =
     let has = c.pv_try_lock-has.ensures.taken c.if-has.true in
     record {
       of = still_in me.share me.cpu new c.pv_try_lock-has.ensures.same me.of;
-      lasts = me.lasts;
+      lasts = named refl (ready may may.free (held_first has.took.holds));
       stands = ∣ port.stands me.share d (set me.notes.items l true) me.pending new is may.free
           (port.taken d Try l (own_node me.cpu) (first_of Try l me.cpu.seat) new me.notes.items r.1 (low_in me.share d is may.lock) has.took has.rests) ∣₁;
     }

@@ -21,7 +21,7 @@ invariant_of-self c =
     subst (λ (e : Domain). Gains e TryRead l manner.Reads (calls_of me.cpu) me.cpu new) c.domain.ensures (c.try_read-has.ensures.taken c.if-has.true) in
     record {
       of = still_in me.share me.cpu new c.try_read-has.ensures.rest.same me.of;
-      lasts = me.lasts;
+      lasts = port.other;
       stands = ∣ port.stands me.share (set me.notes.items l false) me.pending new c.runs.ensures.runs may.free
           (port.gained d l me.cpu new TryRead manner.Reads me.notes.items (set me.notes.items l false) idle gains
           (port.notes_rw d.plan l false me.notes.items idle.noted.long may.lock may.kind)) ∣₁;

@@ -21,7 +21,7 @@ invariant_of-self c =
     subst (λ (e : Domain). Gains e TryWrite l manner.Writes (calls_of me.cpu) me.cpu new) c.domain.ensures (c.try_write-has.ensures.taken c.if-has.true) in
     record {
       of = still_in me.share me.cpu new c.try_write-has.ensures.rest.same me.of;
-      lasts = me.lasts;
+      lasts = port.other;
       stands = ∣ port.stands me.share (set me.notes.items l true) me.pending new c.runs.ensures.runs may.free
           (port.gained d l me.cpu new TryWrite manner.Writes me.notes.items (set me.notes.items l true) idle gains
           (port.notes_rw d.plan l true me.notes.items idle.noted.long may.lock may.kind)) ∣₁;

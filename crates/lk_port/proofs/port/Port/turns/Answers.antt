@@ -1,8 +1,8 @@
-use Rattle.std.proofs.Common.{ap, arith}
-use Rattle.lk_port.proofs.Names.{Lock, own_node}
+use Rattle.std.proofs.Common.{◌<◌, ap, refl, sym, subst, arith}
+use Rattle.lk_port.proofs.Names.{Lock, Domain, locks_of, own_node}
 use Rattle.lk_pvdomain.specs.PvTurns.{waiter_in}
-use Rattle.lk_port.proofs.Ports.{is_free, waited}
-use Rattle.lk_port.proofs.Shares.{halts_by, halts_waiting, is_of, still_in}
+use Rattle.lk_port.proofs.Ports.{held_first, is_free, waited}
+use Rattle.lk_port.proofs.Shares.{halts_by, halts_waiting, is_of, same_domain, still_in}
 use Rattle.lk_port.proofs.HaltingPorts as port
 use Rattle.lk_port.proofs.port.Port.turns.Goals as goal
 
@@ -36,7 +36,12 @@ invariant_of-self c =
     let has = c.pv_poll.ensures.taken c.in-Has.is was.0 was.2 in
     record {
       of = still_in me.share me.cpu new c.pv_poll.ensures.same me.of;
-      lasts = waited (ap is_free c.requires.waits) me.lasts;
+      lasts = λ _. record {
+        free = refl;
+        lock = subst (λ (e : Domain). w.lock.index < locks_of e.plan) (sym (same_domain me.share d is)) was.2.low;
+        kind = port.spins me.share d w.lock.index is;
+        holds = held_first has.took.holds;
+      };
       stands = ∣ halts_by _ _ me.share d is (port.taken d Lock w.lock.index (own_node new) was.0 new me.notes.items was.1 was.2.low has.took has.rests) ∣₁;
     }
 

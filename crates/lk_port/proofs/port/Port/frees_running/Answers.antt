@@ -1,7 +1,7 @@
 use Rattle.lk_port.proofs.Names.{calls_of, domain_of}
 use Rattle.lk_port.proofs.Shares.{still_in}
 use Rattle.lk_port.proofs.Ports as port
-use Rattle.lk_port.proofs.port.Port.frees.Goals as goal
+use Rattle.lk_port.proofs.port.Port.frees_running.Goals as goal
 
 pub unlock-requires-clause-value : goal.unlock-requires-clause-value
 unlock-requires-clause-value c =
@@ -22,6 +22,6 @@ invariant_of-self c =
     let new = c.unlock.new.cpu in
     record {
       of = still_in me.share me.cpu new c.unlock.ensures.rest.same me.of;
-      lasts = me.lasts;
+      lasts = port.named c.requires.last (port.ready may may.free c.unlock.ensures.freed.freed.none);
       stands = ∣ port.stands me.share me.notes.items me.pending new c.runs.ensures.runs may.free (port.dropped d l me.cpu new me.notes.items idle c.unlock.ensures.freed) ∣₁;
     }

@@ -1,9 +1,9 @@
-use Rattle.std.proofs.Common.{subst}
+use Rattle.std.proofs.Common.{refl, subst}
 use Rattle.lk_port.proofs.Names.{Spins, calls_of, Gains, Domain, domain_of}
 use Rattle.lk_rows.specs.declared.setup.Verb.TheVariants.{Try}
 use Rattle.lk_port.proofs.Shares.{still_in}
 use Rattle.lk_port.proofs.Ports as port
-use Rattle.lk_port.proofs.port.Port.tries.Goals as goal
+use Rattle.lk_port.proofs.port.Port.tries_running.Goals as goal
 
 pub invariant_of-self : goal.invariant_of-self
 invariant_of-self c =
@@ -17,7 +17,8 @@ invariant_of-self c =
     subst (λ (e : Domain). Gains e Try l Spins (calls_of me.cpu) me.cpu new) c.domain.ensures (c.try_lock-has.ensures.taken c.if-has.true) in
     record {
       of = still_in me.share me.cpu new c.try_lock-has.ensures.rest.same me.of;
-      lasts = port.next c.requires.runs may;
+      lasts = port.named refl
+          (port.ready may may.free (port.held_first gains.taken.holds));
       stands = ∣ port.stands me.share me.notes.items me.pending new c.runs.ensures.runs may.free (port.gained d l me.cpu new Try Spins me.notes.items me.notes.items idle gains
           (port.notes_spin d.plan l me.notes.items idle.noted.long may.kind)) ∣₁;
     }
