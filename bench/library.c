@@ -1,9 +1,10 @@
 /* library LOCK bare|work THREADS TURNS: THREADS threads take LOCK and free it TURNS times each. Under it lies nothing, or two numbers
  * that each turn raises by one. LOCK is virt, native, cna or pv of the C library, or pv-sleeps, which is pv by the calls of
- * qlock_sleep.h; or mutex, spin or mcs: those of POSIX threads, and the queued lock of Concurrency Kit (built with -DWITH_CK). Writes
- * "right", and to standard error the microseconds from the first thread's start to the last one's end, as lk_race does. A waiter of the C
- * library yields at each 64th look. In pv its processor halts when its 32,768 turns are over, and it goes on looking; in pv-sleeps it sleeps
- * then. bench/library.py compiles and runs this. */
+ * qlock_sleep.h; or mutex, spin or mcs: those of POSIX threads, and the queued lock of Concurrency Kit (built with -DWITH_CK); or inline or
+ * calls: a word that is exchanged from 0 to 1 and back, with no other test, in the loop itself, and by a function each, as from any library.
+ * Writes "right", and to standard error the microseconds from the first thread's start to the last one's end, as lk_race does. A waiter of
+ * the C library yields at each 64th look. In pv its processor halts when its 32,768 turns are over, and it goes on looking; in pv-sleeps it
+ * sleeps then. bench/library.py compiles and runs this. */
 #define _GNU_SOURCE
 #include "qlock_sleep.h"
 #include <pthread.h>
@@ -22,6 +23,7 @@ static ck_spinlock_mcs_t mcs = CK_SPINLOCK_MCS_INITIALIZER;
 enum { MOST = QLOCK_MOST_CPUS, THRESHOLD = 16, SPINS = 32768 };
 
 static struct { char before[128]; long a, b; char behind[112]; } value;
+static struct { char before[128]; uint64_t word; char behind[120]; } least;
 static struct { char before[128]; pthread_mutex_t mutex; pthread_spinlock_t spin; char behind[128]; } posix;
 static struct { qlock_cpu cpu; char behind[112]; } seats[MOST];
 static qlock_bed beds[MOST];
@@ -93,6 +95,46 @@ static void *by_spin(void *given) {
     return NULL;
 }
 
+static inline int exchanges(uint64_t from, uint64_t to) {
+    return __atomic_compare_exchange_n(&least.word, &from, to, 0, __ATOMIC_SEQ_CST, __ATOMIC_SEQ_CST);
+}
+
+static __attribute__((noinline)) int takes(void) {
+    return exchanges(0, 1);
+}
+
+static __attribute__((noinline)) int frees(void) {
+    return exchanges(1, 0);
+}
+
+static void *by_exchanges(void *given) {
+    unsigned looks = 0;
+    (void)given;
+    for (long turn = 0; turn < turns; turn++) {
+        while (!exchanges(0, 1)) {
+            yields(&looks);
+        }
+        work();
+        exchanges(1, 0);
+    }
+    return NULL;
+}
+
+static void *by_calls(void *given) {
+    unsigned looks = 0;
+    (void)given;
+    for (long turn = 0; turn < turns; turn++) {
+        while (!takes()) {
+            yields(&looks);
+        }
+        work();
+        if (!frees()) {
+            abort();
+        }
+    }
+    return NULL;
+}
+
 #ifdef WITH_CK
 static void *by_mcs(void *given) {
     ck_spinlock_mcs_context_t node;
@@ -109,7 +151,7 @@ static void *by_mcs(void *given) {
 static const struct { const char *name; void *(*runs)(void *); int family; } locks[] = {
     {"virt", by_library, QLOCK_VIRT}, {"native", by_library, QLOCK_NATIVE}, {"cna", by_library, QLOCK_CNA},
     {"pv", by_library, QLOCK_PV}, {"pv-sleeps", by_sleep, QLOCK_PV},
-    {"mutex", by_mutex, -1}, {"spin", by_spin, -1},
+    {"mutex", by_mutex, -1}, {"spin", by_spin, -1}, {"inline", by_exchanges, -1}, {"calls", by_calls, -1},
 #ifdef WITH_CK
     {"mcs", by_mcs, -1},
 #endif

@@ -36,12 +36,14 @@ middle, such luck is left; where other work runs beside it, the times are those 
              of 1 KiB, on one, two and four threads. Beside each mode stands the same lock in plain Rust with the value in an
              UnsafeCell, and beside all std's Mutex and the Mutex of Rattle's library, which has std's as its peer. With --alignments too
              one thread does so at each alignment
---against FILE  in place of these: PROGRAM beside FILE, another build of `lk_race`, such as that of the version before. On two and four
-             threads N times eight runs of each, in turn. Each of the eight begins its stack 16 bytes further on, and each run its heap
-             so many times 64 bytes further on, so that 64 runs have each such place in a page: where a value lies makes a tenth of a
-             contended turn, and each build would have one place for all its runs. On one thread each program is linked at each
-             alignment, as above. Printed are the least and the middle of PROGRAM, those of FILE, and the ratio of the middles; and on
-             more threads between which two it lies in 95 of a hundred draws from the same runs. With --values, of values
+--against FILE  in place of these: PROGRAM beside FILE, another build of `lk_race`, such as that of the version before. On four threads N
+             times eight runs of each, in turn, and on two N times 32, since there a run may take twice as long as another. Each of
+             eight begins its stack 16 bytes further on, and each run its heap so many times 64 bytes further on, so that 64 runs
+             have each such place in a page: where a value lies makes a tenth of a contended turn, and each build would have one
+             place for all its runs. On one thread each program is linked at each alignment, as above. Printed are the least and the
+             middle of PROGRAM, those of FILE, and the ratio of the middles; and on more threads between which two it lies in 95 of
+             a hundred draws from the same runs. With --values, of values. Not at real-time priority: there a thread that was just
+             made may stand behind another one on its processor, and two threads run one after the other
 """
 import argparse
 import itertools
@@ -49,20 +51,25 @@ import os
 import random
 import re
 import resource
-import shutil
 import statistics
 import subprocess
 import sys
 import tempfile
 
+sys.dont_write_bytecode = True
+
 HERE = os.path.dirname(os.path.abspath(__file__))
+sys.path.append(os.path.join(HERE, "shared"))
+
+from linking import PADS, linked, padded
+
 TURNS = {1: 4000000, 2: 4000000, 4: 2000000}
 CROWDS = {1: 2000000, 2: 800000, 8: 800000}
 FEW_TURNS = {1: 400000, 2: 80000, 8: 64000}
 ALIGNED_TURNS = 400000
-AGAINST_TURNS = {2: 2000000, 4: 1000000}
+AGAINST_TURNS = {2: 1000000, 4: 1000000}
+AGAINST_RUNS = {2: 32, 4: 8}
 DRAWS = 2000
-PADS = range(16, 144, 16)
 PLACES = range(0, 128, 16)
 LINE, LINES = 64, 64
 # From one run to the next the heap begins so many lines further on, of those of a page.
@@ -162,32 +169,6 @@ def race_values(modes, program, plain, runs):
             race(title, locks, threads, {lock: turns for lock in locks}, 1, runs)
 
 
-def padded(folder):
-    """For each amount of dead code an object file of it. Linkers put code of this name in front of other code, and the flag R keeps it."""
-    objects = []
-    for pad in PADS:
-        source = os.path.join(folder, "pad%d.s" % pad)
-        with open(source, "w") as text:
-            text.write('.section .text.unlikely.pad,"axR",@progbits\n.skip %d\n.section .note.GNU-stack\n' % pad)
-        objects.append(source[:-1] + "o")
-        subprocess.run(["cc", "-c", source, "-o", objects[-1]], check=True)
-    return objects
-
-
-def linked(program, folder, name):
-    """A program of Rattle, linked with each amount of dead code in front."""
-    rt = shutil.which("rt")
-    if not rt or not os.path.exists(program + ".o"):
-        sys.exit("race.py: needs rt in PATH, and %s.o, which rt run and tools/unproved --object leave beside the program" % program)
-    libraries = os.path.join(os.path.dirname(os.path.dirname(os.path.realpath(rt))), "c")
-    made = []
-    for number, pad in enumerate(padded(folder)):
-        made.append(os.path.join(folder, "%s%d" % (name, number)))
-        files = [pad, program + ".o", libraries + "/libos_c.a", libraries + "/liblibc_c.a"]
-        subprocess.run(["cc", "-fuse-ld=bfd", *files, "-lm", "-lpthread", "-o", made[-1]], check=True)
-    return made
-
-
 def linked_plain(folder):
     """The program in plain Rust, linked likewise."""
     made = []
@@ -245,7 +226,7 @@ def race_places(kind, modes, programs, runs, works, shift):
     for mode in [mode for mode in modes if (mode, kind) != ("pv", "rw")]:
         for (threads, turns), (name, work) in itertools.product(AGAINST_TURNS.items(), works):
             times = {program: [] for program in programs}
-            for number, moved in enumerate(moves(shift, runs * len(PLACES))):
+            for number, moved in enumerate(moves(shift, runs * AGAINST_RUNS[threads])):
                 for program in programs if number % 2 else reversed(programs):
                     took, _used = turn([program, mode, kind], threads, turns, work, moved)
                     times[program].append(took)
