@@ -13,10 +13,10 @@ use lk_names::List;
 #[derive(Drop)]
 pub struct Port {
     pub(crate) share: Share,
-    // These two stand before the processor, at whose end a line of the cache is unused: ports may lie side
+    // These three stand before the processor, at whose end a line of the cache is unused: ports may lie side
     // by side, and each call stores here, or each poll.
     pub(crate) pending: Pending,
-    // The spinlock of the last call, where the next one may be for it, and whether the processor holds it.
+    // the spinlock of the last call, where the next one may be for it, and whether the processor holds it
     pub(crate) last: u32,
     pub(crate) holds_last: bool,
     pub(crate) cpu: Cpu,
