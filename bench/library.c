@@ -23,6 +23,7 @@ static ck_spinlock_mcs_t mcs = CK_SPINLOCK_MCS_INITIALIZER;
 enum { MOST = QLOCK_MOST_CPUS, THRESHOLD = 16, SPINS = 32768 };
 
 static struct { char before[128]; long a, b; char behind[112]; } value;
+/* The word of `inline` and `calls`. */
 static struct { char before[128]; uint64_t word; char behind[120]; } least;
 static struct { char before[128]; pthread_mutex_t mutex; pthread_spinlock_t spin; char behind[128]; } posix;
 static struct { qlock_cpu cpu; char behind[112]; } seats[MOST];
